@@ -1,0 +1,4 @@
+pub mod Ceilings
+pub mod Points
+pub mod Bounds
+pub mod Lattices

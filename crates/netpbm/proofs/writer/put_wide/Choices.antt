@@ -1,0 +1,10 @@
+use mathlib.Core.Path.{_≡_}
+use mathlib.Core.List.{_++_}
+use lib.ListN.{take}
+use Rattle.std.specs.Of.Vec.{vec-items}
+use Rattle.std.specs.shelf.Lists.{joined}
+use Rattle.netpbm.specs.Writes.{pair-bytes}
+use Rattle.netpbm.proofs.writer.put_wide.Given as given
+
+abbrev pub Inv-loop-s : given.InvT-loop-s
+Inv-loop-s l = vec-items (l .out) ≡ vec-items (l .entry .out) ++ joined pair-bytes (take (l .s-index) (l .samples))

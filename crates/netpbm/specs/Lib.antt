@@ -1,0 +1,10 @@
+pub mod Answers
+pub mod Faults
+pub mod Texts
+pub mod Pictures
+pub mod Rasters
+pub mod Reads
+pub mod Parses
+pub mod Seen
+pub mod Writes
+pub mod Windows
