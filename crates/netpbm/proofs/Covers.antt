@@ -67,7 +67,7 @@ same-column s c a m low high =
     let e : a ≡ c * s + b = omega arith in
     sym (ap (λ (q : ℕ). q / s) e ∙ div-mul-add c s b (omega arith))
 
-made-of : {X : Type 0} (b : Bool) (why : ℕ) (p t : X) → refuse-if b why (accepted p) ≡ accepted t → p ≡ t
+pub made-of : {X : Type 0} (b : Bool) (why : ℕ) (p t : X) → refuse-if b why (accepted p) ≡ accepted t → p ≡ t
 made-of true why p t e = absurd (let z : _≡_ {A = ℕ} 0 1 = cc in omega arith)
 made-of false why p t e = cc
 

@@ -5,3 +5,4 @@ pub mod Readings
 pub mod Trips
 pub mod Covers
 pub mod Cuts
+pub mod Joins

@@ -8,3 +8,4 @@ pub mod Parses
 pub mod Seen
 pub mod Writes
 pub mod Windows
+pub mod Joins

@@ -6,6 +6,7 @@ ghost use Rattle.std.specs.Of.Vec.{vec-items};
 ghost use Rattle.std.specs.Vec.{made};
 ghost use Rattle.netpbm.specs.Rasters.{picture-of};
 ghost use Rattle.netpbm.specs.Windows.{across, window-answer, seen-window, Covered, inside, rows-in, Part-rows, Rows-put, Window-given, put-answer, seen-done, After-put};
+ghost use Rattle.netpbm.specs.Joins.{OwnWindowsAreTaken, JoinedWindowsAreTheRaster};
 use crate::fault::Fault;
 use crate::fault::FaultFromAlloc;
 use crate::raster::Raster;
@@ -113,6 +114,8 @@ pub fn put_window(samples: &mut [u16], width: usize, w: Window, part: &[u16]) ->
     ensures answer { λ r. ⌜ seen-done r ≡ put-answer width (length (now (samples .entry))) w (length (now (part .entry))) ⌝ }
     ensures after { λ _. ⌜ After-put (put-answer width (length (now (samples .entry))) w (length (now (part .entry)))) width (now (samples .entry)) w (now (part .entry)) (now (samples .exit)) ⌝ }
     ensures own { λ _. ⌜ (Part-rows width (now (samples .entry)) w (w .height) (now (part .entry)) → now (samples .exit) ≡ now (samples .entry)) ⌝ }
+    ensures taken { λ _. ⌜ OwnWindowsAreTaken ⌝ }
+    ensures joined { λ _. ⌜ JoinedWindowsAreTheRaster ⌝ }
 {
     if !lies_inside(w, width, whole_rows(samples.len(), width)) {
         return Err(Fault::NoWindow);

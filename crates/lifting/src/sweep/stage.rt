@@ -38,7 +38,7 @@ fn admitted<B: BreakSource>(
 }
 
 // Every sample of a lent plane is a value that its type can hold. (This compiles to nothing.)
-fn all_known<K: Sample>(plane: &[K])
+pub fn all_known<K: Sample>(plane: &[K])
     ensures { λ _. ⌜ ((k : ℕ) → K·Sample .kind .held (getD (now (plane .entry)) k (K·Sample .kind .nothing)) ≡ true) ⌝ }
 {
     for k in 0..plane.len() {
