@@ -1,5 +1,7 @@
 // Runs the transform on whole tiles that another implementation computed, and on random tiles under labels beside a plain
 // implementation of this crate's own. Prints what came of it, and ends with an Err where anything differs.
+#![tactic(auto)]
+
 mod fault;
 mod plain;
 mod random;

@@ -1,6 +1,8 @@
 // Runs the transform on whole tiles that another implementation computed, on random tiles under labels beside a plain
 // implementation of this crate's own, and random scripts of a tile's calls beside a reference tile. Prints what came of it, and
 // ends with an Err where anything differs.
+#![tactic(auto)]
+
 mod fault;
 mod generator;
 mod plain;

@@ -1,4 +1,6 @@
 // Frames of tiles, their resolutions, points and gaps, the place of a sample in a plane, and the refusals.
+#![tactic(auto)]
+
 pub mod corners;
 pub mod direction;
 pub mod frame;

@@ -1,4 +1,6 @@
 // Netpbm's PGM format (P5): grey pictures of 8 or 16 bits, read from bytes and written to bytes.
+#![tactic(auto)]
+
 pub mod fault;
 mod header;
 mod items;

@@ -1,4 +1,6 @@
 // rufkandu check: takes a depth plate through the transform and back, cut at the borders of its label map, and says what came of it.
+#![tactic(auto)]
+
 mod arguments;
 mod failure;
 mod gaps;

@@ -1,4 +1,6 @@
 // rufkandu: takes depth plates through the transform, cut at the borders of their label maps.
+#![tactic(auto)]
+
 mod check;
 mod failure;
 mod files;

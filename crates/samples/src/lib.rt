@@ -1,4 +1,6 @@
 // Kinds of samples, and the steps by which lifting turns a tile of them into coarse samples and details.
+#![tactic(auto)]
+
 pub mod carry;
 pub mod flow;
 pub mod identifier;

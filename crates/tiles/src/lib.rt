@@ -1,4 +1,6 @@
 // A tile's service: a tile is opened over a lent plane as a picture or as bands, and serves put, read, begin, down, up and finish.
+#![tactic(auto)]
+
 pub mod call;
 pub mod event;
 pub mod player;
