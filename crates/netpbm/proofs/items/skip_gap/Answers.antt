@@ -7,7 +7,7 @@ pub loop-rest-preserved-then-comment : goal.loop-rest-preserved-then-comment
 loop-rest-preserved-then-comment c =
     let bs = c.loop-rest.rest.now in
     let long : 1 ≤ length bs = omega (arith, ltb-false) in
-    ap (λ t. skipped (not t) (rest_of 1 bs)) c.is-line-end-comment.ensures ∙ skip_comment bs long
+    ap (λ t. skipped (not t) (rest_of 1 bs)) c.is_line_end-comment.ensures ∙ skip_comment bs long
     ∙ ap (λ t. skipped t bs) (sym c.if-comment.true) ∙ c.loop-rest.invariant
 
 pub loop-rest-preserved-then-b-eq35 : goal.loop-rest-preserved-then-b-eq35
@@ -20,7 +20,7 @@ pub loop-rest-preserved : goal.loop-rest-preserved
 loop-rest-preserved c =
     let bs = c.loop-rest.rest.now in
     let long : 1 ≤ length bs = omega (arith, ltb-false) in
-    ap (λ t. skipped t (rest_of 1 bs)) c.if-comment.false ∙ skip_white bs long (sym c.if-not-is-white.ensures)
+    ap (λ t. skipped t (rest_of 1 bs)) c.if-comment.false ∙ skip_white bs long (sym c.if-not-is_white.ensures)
     ∙ ap (λ t. skipped t bs) (sym c.if-comment.false) ∙ c.loop-rest.invariant
 
 pub returns : goal.returns

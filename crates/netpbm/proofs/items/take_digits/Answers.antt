@@ -8,9 +8,9 @@ returns-in-empty c = digits_none _ (omega (arith, ltb-true))
 
 pub returns-in-len1-up : goal.returns-in-len1-up
 returns-in-len1-up c =
-    let v = c.read-digits.ensures.value in
-    let r = c.read-digits.ensures.rest in
-    (λ i. got (v i) (r i)) ∙ digits_got _ (omega (arith, ltb-false)) (sym c.if-is-digit.ensures)
+    let v = c.read_digits.ensures.value in
+    let r = c.read_digits.ensures.rest in
+    (λ i. got (v i) (r i)) ∙ digits_got _ (omega (arith, ltb-false)) (sym c.if-is_digit.ensures)
 
 pub returns-in-default : goal.returns-in-default
 returns-in-default c = digits_other _ (omega (arith, ltb-false)) (sym c.if-is-digit.ensures)

@@ -7,7 +7,7 @@ pub returns-in-empty : goal.returns-in-empty
 returns-in-empty c = gap_none _ (omega (arith, ltb-true))
 
 pub returns-in-len1-up : goal.returns-in-len1-up
-returns-in-len1-up c = ap (got tt) c.skip-gap.ensures ∙ gap_got _ (omega (arith, ltb-false)) (sym c.if-is-gap.ensures)
+returns-in-len1-up c = ap (got tt) c.skip_gap.ensures ∙ gap_got _ (omega (arith, ltb-false)) (sym c.if-is_gap.ensures)
 
 pub returns-in-default : goal.returns-in-default
 returns-in-default c = gap_other _ (omega (arith, ltb-false)) (sym c.if-is-gap.ensures)

@@ -14,4 +14,4 @@ returns-in-err-rest c =
 
 pub returns : goal.returns
 unfolding magic
-returns c = c.take-byte-2.ensures ∙ ap (λ r. and_then r (λ _ bs. byte 53 bs)) c.in-ok-rest.ensures
+returns c = c.take_byte-2.ensures ∙ ap (λ r. and_then r (λ _ bs. byte 53 bs)) c.in_ok-rest.ensures

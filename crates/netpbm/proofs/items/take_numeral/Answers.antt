@@ -14,4 +14,4 @@ returns-in-err-rest c =
 
 pub returns : goal.returns
 unfolding numeral
-returns c = c.take-digits.ensures ∙ ap (λ r. capped_read (and_then r (λ _ bs. digits bs))) c.in-ok-rest.ensures
+returns c = c.take_digits.ensures ∙ ap (λ r. capped_read (and_then r (λ _ bs. digits bs))) c.in_ok-rest.ensures

@@ -17,17 +17,17 @@ pub returns-then-rest-size : goal.returns-then-rest-size
 returns-then-rest-size c =
     let bs = c.args.bytes.now in
     let fit : length bs < 2 ^ 64 = omega arith in
-    let size = c.saturating-mul-size.ensures ∙ ap (λ (n : ℕ). capped (c.saturating-mul.result * n)) c.bytes-each.ensures in
+    let size = c.saturating_mul-size.ensures ∙ ap (λ (n : ℕ). capped (c.saturating_mul.result * n)) c.bytes_each.ensures in
     inl (read_short bs c.in-ok-head.head c.in-ok-head.rest.now c.in-ok-head.ensures fit
-    c.saturating-mul.result c.saturating-mul-size.result c.saturating-mul.ensures size c.if-rest-size.true)
+    c.saturating_mul.result c.saturating_mul-size.result c.saturating_mul.ensures size c.if-rest-size.true)
 
 pub returns-then-size-rest : goal.returns-then-size-rest
 returns-then-size-rest c =
     let bs = c.args.bytes.now in
     let fit : length bs < 2 ^ 64 = omega arith in
-    let size = c.saturating-mul-size.ensures ∙ ap (λ (n : ℕ). capped (c.saturating-mul.result * n)) c.bytes-each.ensures in
+    let size = c.saturating_mul-size.ensures ∙ ap (λ (n : ℕ). capped (c.saturating_mul.result * n)) c.bytes_each.ensures in
     inl (read_over bs c.in-ok-head.head c.in-ok-head.rest.now c.in-ok-head.ensures fit
-    c.saturating-mul.result c.saturating-mul-size.result c.saturating-mul.ensures size c.if-size-rest.true)
+    c.saturating_mul.result c.saturating_mul-size.result c.saturating_mul.ensures size c.if-size-rest.true)
 
 pub returns-in-err-samples : goal.returns-in-err-samples
 returns-in-err-samples c =
@@ -46,8 +46,8 @@ pub returns : goal.returns
 returns c =
     let bs = c.args.bytes.now in
     let fit : length bs < 2 ^ 64 = omega arith in
-    let size = c.saturating-mul-size.ensures ∙ ap (λ (n : ℕ). capped (c.saturating-mul.result * n)) c.bytes-each.ensures in
-    let whole : c.saturating-mul-size.result ≡ length c.in-ok-head.rest.now = omega arith in
+    let size = c.saturating_mul-size.ensures ∙ ap (λ (n : ℕ). capped (c.saturating_mul.result * n)) c.bytes_each.ensures in
+    let whole : c.saturating_mul-size.result ≡ length c.in-ok-head.rest.now = omega arith in
     inl (c.new.ensures ∙ read_fits bs c.in-ok-head.head c.in-ok-head.rest.now c.in-ok-head.ensures fit
-    c.saturating-mul.result c.saturating-mul-size.result (vec_items c.in-ok-samples.samples)
-    c.saturating-mul.ensures size whole c.in-ok-samples.ensures)
+    c.saturating_mul.result c.saturating_mul-size.result (vec_items c.in-ok-samples.samples)
+    c.saturating_mul.ensures size whole c.in-ok-samples.ensures)

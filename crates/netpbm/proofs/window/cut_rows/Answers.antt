@@ -30,4 +30,4 @@ loop-row-preserved c =
     let room = row_room t c.args.stride (length c.args.samples.now) c.loop-row.row c.loop-row-test.true c.requires.across c.requires.down in
     let width : start + t.width - start ≡ t.width = omega arith in
     cut_more c.args.stride c.args.samples.now t c.loop-row.row (vec_items c.loop-row.out) _ c.loop-row.invariant room
-    (c.in-ok-extend-from-slice.ensures.items ∙ ap (λ (q : ℕ). vec_items c.loop-row.out ++ take q (drop start c.args.samples.now)) width)
+    (c.in_ok-extend_from_slice.ensures.items ∙ ap (λ (q : ℕ). vec_items c.loop-row.out ++ take q (drop start c.args.samples.now)) width)

@@ -40,10 +40,10 @@ loop-row-preserved c =
     let part = c.args.part.now in
     let wide : start + t.width - start ≡ t.width = omega arith in
     let long : from + t.width - from ≡ t.width = omega arith in
-    let is = c.copy-from-slice.ensures.after ∙ ap (λ (q : ℕ). take q (drop from part)) long in
-    let after = ap (λ (q : ℕ). put_mid start q c.loop-row.samples c.copy-from-slice.new.self) wide in (
-      put_more c.args.stride c.args.samples.now t n part c.loop-row.samples c.copy-from-slice.new.self _ c.loop-row-test.true c.requires.across c.requires.down c.requires.whole is after c.loop-row.invariant.0,
-      λ p. own_more c.args.stride c.args.samples.now t n part c.loop-row.samples c.copy-from-slice.new.self _ c.loop-row-test.true c.requires.across c.requires.down c.requires.whole is after p (c.loop-row.invariant.1 p),
+    let is = c.copy_from_slice.ensures.after ∙ ap (λ (q : ℕ). take q (drop from part)) long in
+    let after = ap (λ (q : ℕ). put_mid start q c.loop-row.samples c.copy_from_slice.new.self) wide in (
+      put_more c.args.stride c.args.samples.now t n part c.loop-row.samples c.copy_from_slice.new.self _ c.loop-row-test.true c.requires.across c.requires.down c.requires.whole is after c.loop-row.invariant.0,
+      λ p. own_more c.args.stride c.args.samples.now t n part c.loop-row.samples c.copy_from_slice.new.self _ c.loop-row-test.true c.requires.across c.requires.down c.requires.whole is after p (c.loop-row.invariant.1 p),
     )
 
 pub returns : goal.returns

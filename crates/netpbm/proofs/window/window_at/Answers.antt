@@ -31,8 +31,8 @@ overflow-sub-height c = omega (arith, starts_within c.args.height c.args.side c.
 
 pub returns : goal.returns
 returns c =
-    let column : c.args.column < across c.args.width c.args.side = omega (arith, c.windows-across.ensures) in
-    let row : c.args.row < across c.args.height c.args.side = omega (arith, c.windows-across-else-column-windows-across.ensures) in
+    let column : c.args.column < across c.args.width c.args.side = omega (arith, c.windows_across.ensures) in
+    let row : c.args.row < across c.args.height c.args.side = omega (arith, c.windows_across-else-column-windows_across.ensures) in
     let w = c.min.ensures in
     let h = c.min-2.ensures in
     record {

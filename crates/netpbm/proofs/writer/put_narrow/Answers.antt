@@ -9,7 +9,7 @@ overflow-cast-s c = omega (arith, within_at 255 c.args.samples.now c.loop-s.s-in
 pub loop-s-preserved : goal.loop-s-preserved
 loop-s-preserved c =
     let x = get_or c.args.samples.now c.loop-s.s-index 0 in
-    c.in-ok-push.ensures.items ∙ ap (λ (q : List ℕ). q ++ (x ∷ [])) c.loop-s.invariant
+    c.in_ok-push.ensures.items ∙ ap (λ (q : List ℕ). q ++ (x ∷ [])) c.loop-s.invariant
     ∙ append_assoc (vec_items c.args.out.now) _ _
     ∙ ap (λ (q : List ℕ). vec_items c.args.out.now ++ q) (sym (take_more c.args.samples.now c.loop-s.s-index 0 c.loop-s-test.true))
 

@@ -9,7 +9,7 @@ use Rattle.netpbm.specs.Writes.{header_bytes, pair_bytes, sample_bytes, written}
 use Rattle.netpbm.proofs.Samples.{within_weaker}
 use Rattle.netpbm.proofs.Trips.{Sound, written_read}
 use Rattle.netpbm.proofs.writer.write.Goals as goal
-use Rattle.netpbm.proofs.writer.write.Goals.{then-maxval-lt256+in-ok-put-narrow, else-maxval-lt256+in-ok-put-wide}
+use Rattle.netpbm.proofs.writer.write.Goals.{then-maxval-lt256+in_ok-put_narrow, else-maxval-lt256+in_ok-put_wide}
 
 pub put-narrow-requires : goal.put-narrow-requires
 put-narrow-requires c =
@@ -23,13 +23,13 @@ returns c =
     let p : Picture = picture_of r in
     let m = r.maxval in
     let xs = vec_items r.samples in
-    let head = c.in-ok-out.ensures in
+    let head = c.in_ok-out.ensures in
     let same = c.maxval.ensures in
     let e : vec_items c.if-maxval-lt256.out ≡ header_bytes p ++ sample_bytes m xs = elim c.if-maxval-lt256.branch [
-      | then-maxval-lt256+in-ok-put-narrow w ↦
+      | then-maxval-lt256+in_ok-put_narrow w ↦
           ap vec_items w.out-is ∙ w.in-ok-put-narrow.ensures ∙ ap (λ (q : List ℕ). q ++ w.samples.result.now) head
           ∙ ap (λ (q : List ℕ). header_bytes p ++ q) (w.samples.ensures ∙ sym (cond-true (ltb m 256) xs (flat_map pair_bytes xs) (lt-ltb m 256 (omega arith))))
-      | else-maxval-lt256+in-ok-put-wide w ↦
+      | else-maxval-lt256+in_ok-put_wide w ↦
           ap vec_items w.out-is ∙ w.in-ok-put-wide.ensures ∙ ap (λ (q : List ℕ). q ++ flat_map pair_bytes w.samples-else-maxval-lt256.result.now) head
           ∙ ap (λ (q : List ℕ). header_bytes p ++ q) (ap (flat_map pair_bytes) w.samples-else-maxval-lt256.ensures ∙ sym (cond-false (ltb m 256) xs (flat_map pair_bytes xs) (le-ltb m 256 (omega arith))))
     ] in

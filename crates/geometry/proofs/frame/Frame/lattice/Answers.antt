@@ -65,14 +65,14 @@ returns c =
     let h : r ≤ k.levels = c.if-r-self.false in
     let a = answered k r _ h c.resolution-left.ensures in
     let n = c.apart-n.ensures.is in
-    let first = c.place-of.ensures ∙ ap₂ (λ (x y : ℕ). place k (record { x = x; y = y })) (ap₂ ◌*◌ a.left n) (ap₂ ◌*◌ a.top n) in
+    let first = c.place_of.ensures ∙ ap₂ (λ (x y : ℕ). place k (record { x = x; y = y })) (ap₂ ◌*◌ a.left n) (ap₂ ◌*◌ a.top n) in
     let is = lattice_is k r h in
     let same : ◌≡◌ {A = Lattice} (record {
       left = c.resolution-left.result.0.0;
       top = c.resolution-left.result.1.0;
       columns = c.resolution-left.result.0.1 - c.resolution-left.result.0.0;
       rows = c.resolution-left.result.1.1 - c.resolution-left.result.1.0;
-      first = c.place-of.result;
+      first = c.place_of.result;
       across = c.apart-n.result;
       down = c.apart-n.result * width k;
     }) (lattice_at k r) = λ i. record {

@@ -22,8 +22,8 @@ pub returns : goal.returns
 unfolding low high
 returns c =
     let e = c.apart-n.ensures.is in
-    let x0 = c.ceil-of.ensures ∙ ap (ceil c.args.self.now.corners.x0) e in
-    let x1 = c.ceil-of-2.ensures ∙ ap (ceil c.args.self.now.corners.x1) e in
-    let y0 = c.ceil-of-3.ensures ∙ ap (ceil c.args.self.now.corners.y0) e in
+    let x0 = c.ceil_of.ensures ∙ ap (ceil c.args.self.now.corners.x0) e in
+    let x1 = c.ceil_of-2.ensures ∙ ap (ceil c.args.self.now.corners.x1) e in
+    let y0 = c.ceil_of-3.ensures ∙ ap (ceil c.args.self.now.corners.y0) e in
     let y1 = c.ceil-of-4.ensures ∙ ap (ceil c.args.self.now.corners.y1) e in
     search rules
