@@ -5,10 +5,10 @@ use Rattle.commands.proofs.Verbs.{after, alone_after}
 use Rattle.commands.proofs.script.call_of.Goals as goal
 
 pub returns-in-put : goal.returns-in-put
-returns-in-put c = after (codes "put") c.args.words.now c.put-of.result (search rules) (search rules) c.put-of.ensures
+returns-in-put c = after (codes "put") c.args.words.now c.put_of.result (search rules) (search rules) c.put_of.ensures
 
 pub returns-in-read : goal.returns-in-read
-returns-in-read c = after (codes "read") c.args.words.now c.read-of.result (search rules) (search rules) c.read-of.ensures
+returns-in-read c = after (codes "read") c.args.words.now c.read_of.result (search rules) (search rules) c.read_of.ensures
 
 pub returns-in-down : goal.returns-in-down
 returns-in-down c = after (codes "down") c.args.words.now c.alone-in-down.result (search rules) (search rules) (alone_after Down _ c.alone-in-down.result (λ h. h) (λ h. omega (arith, h)) (λ h. omega (arith, h)) c.alone-in-down.ensures)

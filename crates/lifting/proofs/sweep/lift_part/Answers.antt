@@ -14,5 +14,5 @@ returns g c k xs outside long part come =
     let join = not (eqb (value_of (number g.row.JOIN)) 0) in
     let run = c.args.run in
     let track = c.args.track in
-    subst (λ (ys : List g.row.S-Sample.Denot). ComeTo m k broken run.resolution run.direction odd join xs (point_in run (length c.args.flags.now)).x run.first.y ys) (sym c.lift-run.ensures)
+    subst (λ (ys : List g.row.S-Sample.Denot). ComeTo m k broken run.resolution run.direction odd join xs (point_in run (length c.args.flags.now)).x run.first.y ys) (sym c.lift_run.ensures)
     (run_comes m k broken outside odd join run c.fill.new.flags (length c.args.flags.now) track.here track.back track.forth track.stride xs c.args.plane.now c.fill.auto.flags long part c.fill.ensures come)

@@ -17,7 +17,7 @@ returns-in-Row g c =
     let y = l.top + c.args.j in
     let u = l.left + inner odd l in
     let v = l.left + (inner odd l + 2 * inner_count odd l) in
-    let all : Moves m broken c.args.r Row odd join l 0 y 0 (y + 1) c.args.plane.now c.row-last.new.plane =
-    moves_on m broken c.args.r Row odd join l 0 y u y 0 (y + 1) c.args.plane.now c.row-first.new.plane c.row-last.new.plane c.row-first.ensures
-    (moves_on m broken c.args.r Row odd join l u y v y 0 (y + 1) c.row-first.new.plane c.row-middle.new.plane c.row-last.new.plane c.row-middle.ensures c.row-last.ensures) in
-    subst (λ (d : Direction). Moves m broken c.args.r d odd join l 0 y 0 (y + 1) c.args.plane.now c.row-last.new.plane) (sym c.in-Row.is) all
+    let all : Moves m broken c.args.r Row odd join l 0 y 0 (y + 1) c.args.plane.now c.row_last.new.plane =
+    moves_on m broken c.args.r Row odd join l 0 y u y 0 (y + 1) c.args.plane.now c.row_first.new.plane c.row_last.new.plane c.row_first.ensures
+    (moves_on m broken c.args.r Row odd join l u y v y 0 (y + 1) c.row_first.new.plane c.row_middle.new.plane c.row_last.new.plane c.row_middle.ensures c.row_last.ensures) in
+    subst (λ (d : Direction). Moves m broken c.args.r d odd join l 0 y 0 (y + 1) c.args.plane.now c.row_last.new.plane) (sym c.in-Row.is) all

@@ -17,6 +17,6 @@ loop-k-preserved g c =
     let by = amount m (not (eqb (value_of (number g.row.ODD)) 0)) in
     let k = c.loop-k.k in
     let at = c.args.here + k * c.args.stride in
-    c.lift-point.ensures
+    c.lift_point.ensures
     ∙ ap (put_at m.kind.nothing join by (get_or c.args.flags.now k no_flags) at (at - c.args.back) (at + c.args.forth)) c.loop-k.invariant
     ∙ sym (run_more m.kind.nothing join by c.args.flags.now c.args.here c.args.back c.args.forth c.args.stride k c.args.plane.now)

@@ -8,5 +8,5 @@ returns-in-empty c = byte_none _ _ (omega (arith, ltb-true))
 pub returns-in-len1-up : goal.returns-in-len1-up
 returns-in-len1-up c = byte_got _ _ (omega (arith, ltb-false)) c.if-b-wanted.true
 
-pub returns-in-default : goal.returns-in-default
-returns-in-default c = byte_other _ _ (omega (arith, ltb-false)) c.if-b-wanted.false
+pub returns-in_default : goal.returns-in_default
+returns-in_default c = byte_other _ _ (omega (arith, ltb-false)) c.if-b-wanted.false

@@ -12,5 +12,5 @@ returns-in-len1-up c =
     let r = c.read_digits.ensures.rest in
     (λ i. got (v i) (r i)) ∙ digits_got _ (omega (arith, ltb-false)) (sym c.if-is_digit.ensures)
 
-pub returns-in-default : goal.returns-in-default
-returns-in-default c = digits_other _ (omega (arith, ltb-false)) (sym c.if-is-digit.ensures)
+pub returns-in_default : goal.returns-in_default
+returns-in_default c = digits_other _ (omega (arith, ltb-false)) (sym c.if-is_digit.ensures)

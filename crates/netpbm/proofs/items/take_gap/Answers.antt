@@ -9,5 +9,5 @@ returns-in-empty c = gap_none _ (omega (arith, ltb-true))
 pub returns-in-len1-up : goal.returns-in-len1-up
 returns-in-len1-up c = ap (got tt) c.skip_gap.ensures ∙ gap_got _ (omega (arith, ltb-false)) (sym c.if-is_gap.ensures)
 
-pub returns-in-default : goal.returns-in-default
-returns-in-default c = gap_other _ (omega (arith, ltb-false)) (sym c.if-is-gap.ensures)
+pub returns-in_default : goal.returns-in_default
+returns-in_default c = gap_other _ (omega (arith, ltb-false)) (sym c.if-is_gap.ensures)

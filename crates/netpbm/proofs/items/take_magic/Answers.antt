@@ -5,12 +5,12 @@ use Rattle.netpbm.specs.Reads.{Read, got, fault, and_then, byte, magic}
 use Rattle.netpbm.specs.Seen.{seen_rest}
 use Rattle.netpbm.proofs.items.take_magic.Goals as goal
 
-pub returns-in-err-rest : goal.returns-in-err-rest
+pub returns-in_err-rest : goal.returns-in_err-rest
 unfolding magic
-returns-in-err-rest c =
-    let p = err_from_is_err_and c.from-residual.result c.from-residual.ensures.1 in
+returns-in_err-rest c =
+    let p = err_from_is_err_and c.from_residual.result c.from_residual.ensures.1 in
     ap seen_rest p.1 ∙ ap (λ f. fault (fault_number f)) p.2
-    ∙ ap (λ r. and_then r (λ _ bs. byte 53 bs)) c.in-err-rest.ensures
+    ∙ ap (λ r. and_then r (λ _ bs. byte 53 bs)) c.in_err-rest.ensures
 
 pub returns : goal.returns
 unfolding magic

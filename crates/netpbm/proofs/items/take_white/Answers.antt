@@ -8,5 +8,5 @@ returns-in-empty c = one_none _ (omega (arith, ltb-true))
 pub returns-in-len1-up : goal.returns-in-len1-up
 returns-in-len1-up c = one_got _ (omega (arith, ltb-false)) (sym c.if-is_white.ensures)
 
-pub returns-in-default : goal.returns-in-default
-returns-in-default c = one_other _ (omega (arith, ltb-false)) (sym c.if-is-white.ensures)
+pub returns-in_default : goal.returns-in_default
+returns-in_default c = one_other _ (omega (arith, ltb-false)) (sym c.if-is_white.ensures)

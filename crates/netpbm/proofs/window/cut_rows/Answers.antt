@@ -2,26 +2,26 @@ use Rattle.std.proofs.Common.{◌≡◌, ℕ, ◌+◌, ◌-◌, ◌*◌, ◌≤�
 use Rattle.netpbm.proofs.Cuts.{row_room, size_room, cut_none, cut_more}
 use Rattle.netpbm.proofs.window.cut_rows.Goals as goal
 
-pub overflow-mul-w : goal.overflow-mul-w
-overflow-mul-w c = omega (arith, size_room c.args.w c.args.stride (length c.args.samples.now) c.requires.across c.requires.down)
+pub overflow_mul-w : goal.overflow_mul-w
+overflow_mul-w c = omega (arith, size_room c.args.w c.args.stride (length c.args.samples.now) c.requires.across c.requires.down)
 
-pub overflow-add-start : goal.overflow-add-start
-overflow-add-start c = omega arith
+pub overflow_add-start : goal.overflow_add-start
+overflow_add-start c = omega arith
 
-pub overflow-mul-start : goal.overflow-mul-start
-overflow-mul-start c = omega (arith, row_room c.args.w c.args.stride (length c.args.samples.now) c.loop-row.row c.loop-row-test.true c.requires.across c.requires.down)
+pub overflow_mul-start : goal.overflow_mul-start
+overflow_mul-start c = omega (arith, row_room c.args.w c.args.stride (length c.args.samples.now) c.loop-row.row c.loop-row-test.true c.requires.across c.requires.down)
 
-pub overflow-add-start-in-loop-row : goal.overflow-add-start-in-loop-row
-overflow-add-start-in-loop-row c = omega (arith, row_room c.args.w c.args.stride (length c.args.samples.now) c.loop-row.row c.loop-row-test.true c.requires.across c.requires.down)
+pub overflow_add-start-in-loop-row : goal.overflow_add-start-in-loop-row
+overflow_add-start-in-loop-row c = omega (arith, row_room c.args.w c.args.stride (length c.args.samples.now) c.loop-row.row c.loop-row-test.true c.requires.across c.requires.down)
 
-pub overflow-add-start-in-loop-row-2 : goal.overflow-add-start-in-loop-row-2
-overflow-add-start-in-loop-row-2 c = omega (arith, row_room c.args.w c.args.stride (length c.args.samples.now) c.loop-row.row c.loop-row-test.true c.requires.across c.requires.down)
+pub overflow_add-start-in-loop-row-2 : goal.overflow_add-start-in-loop-row-2
+overflow_add-start-in-loop-row-2 c = omega (arith, row_room c.args.w c.args.stride (length c.args.samples.now) c.loop-row.row c.loop-row-test.true c.requires.across c.requires.down)
 
-pub offset-bounds-samples-start : goal.offset-bounds-samples-start
-offset-bounds-samples-start c = omega (arith, row_room c.args.w c.args.stride (length c.args.samples.now) c.loop-row.row c.loop-row-test.true c.requires.across c.requires.down)
+pub offset_bounds-samples-start : goal.offset_bounds-samples-start
+offset_bounds-samples-start c = omega (arith, row_room c.args.w c.args.stride (length c.args.samples.now) c.loop-row.row c.loop-row-test.true c.requires.across c.requires.down)
 
-pub slice-bounds-extend-from-slice-end : goal.slice-bounds-extend-from-slice-end
-slice-bounds-extend-from-slice-end c = omega (arith, row_room c.args.w c.args.stride (length c.args.samples.now) c.loop-row.row c.loop-row-test.true c.requires.across c.requires.down)
+pub slice_bounds-extend_from_slice-end : goal.slice_bounds-extend_from_slice-end
+slice_bounds-extend_from_slice-end c = omega (arith, row_room c.args.w c.args.stride (length c.args.samples.now) c.loop-row.row c.loop-row-test.true c.requires.across c.requires.down)
 
 pub loop-row-preserved : goal.loop-row-preserved
 loop-row-preserved c =

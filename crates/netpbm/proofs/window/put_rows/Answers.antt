@@ -4,32 +4,32 @@ use Rattle.netpbm.specs.Windows.{PartRows, RowsPut}
 use Rattle.netpbm.proofs.Cuts.{row_room, part_room, put_none, put_more, own_more}
 use Rattle.netpbm.proofs.window.put_rows.Goals as goal
 
-pub overflow-mul-start : goal.overflow-mul-start
-overflow-mul-start c = omega (arith, row_room c.args.w c.args.stride (length c.args.samples.now) c.loop-row.row c.loop-row-test.true c.requires.across c.requires.down)
+pub overflow_mul-start : goal.overflow_mul-start
+overflow_mul-start c = omega (arith, row_room c.args.w c.args.stride (length c.args.samples.now) c.loop-row.row c.loop-row-test.true c.requires.across c.requires.down)
 
-pub overflow-add-start-in-loop-row : goal.overflow-add-start-in-loop-row
-overflow-add-start-in-loop-row c = omega (arith, row_room c.args.w c.args.stride (length c.args.samples.now) c.loop-row.row c.loop-row-test.true c.requires.across c.requires.down)
+pub overflow_add-start-in-loop-row : goal.overflow_add-start-in-loop-row
+overflow_add-start-in-loop-row c = omega (arith, row_room c.args.w c.args.stride (length c.args.samples.now) c.loop-row.row c.loop-row-test.true c.requires.across c.requires.down)
 
-pub overflow-add-start-in-loop-row-2 : goal.overflow-add-start-in-loop-row-2
-overflow-add-start-in-loop-row-2 c = omega (arith, row_room c.args.w c.args.stride (length c.args.samples.now) c.loop-row.row c.loop-row-test.true c.requires.across c.requires.down)
+pub overflow_add-start-in-loop-row-2 : goal.overflow_add-start-in-loop-row-2
+overflow_add-start-in-loop-row-2 c = omega (arith, row_room c.args.w c.args.stride (length c.args.samples.now) c.loop-row.row c.loop-row-test.true c.requires.across c.requires.down)
 
-pub offset-bounds-samples-start : goal.offset-bounds-samples-start
-offset-bounds-samples-start c = omega (arith, row_room c.args.w c.args.stride (length c.args.samples.now) c.loop-row.row c.loop-row-test.true c.requires.across c.requires.down)
+pub offset_bounds-samples-start : goal.offset_bounds-samples-start
+offset_bounds-samples-start c = omega (arith, row_room c.args.w c.args.stride (length c.args.samples.now) c.loop-row.row c.loop-row-test.true c.requires.across c.requires.down)
 
-pub slice-bounds-copy-from-slice-end : goal.slice-bounds-copy-from-slice-end
-slice-bounds-copy-from-slice-end c = omega (arith, row_room c.args.w c.args.stride (length c.args.samples.now) c.loop-row.row c.loop-row-test.true c.requires.across c.requires.down)
+pub slice_bounds-copy_from_slice-end : goal.slice_bounds-copy_from_slice-end
+slice_bounds-copy_from_slice-end c = omega (arith, row_room c.args.w c.args.stride (length c.args.samples.now) c.loop-row.row c.loop-row-test.true c.requires.across c.requires.down)
 
-pub overflow-mul-from : goal.overflow-mul-from
-overflow-mul-from c = omega (arith, part_room c.args.w (length c.args.part.now) c.loop-row.row c.loop-row-test.true c.requires.whole)
+pub overflow_mul-from : goal.overflow_mul-from
+overflow_mul-from c = omega (arith, part_room c.args.w (length c.args.part.now) c.loop-row.row c.loop-row-test.true c.requires.whole)
 
-pub overflow-add-from : goal.overflow-add-from
-overflow-add-from c = omega (arith, part_room c.args.w (length c.args.part.now) c.loop-row.row c.loop-row-test.true c.requires.whole)
+pub overflow_add-from : goal.overflow_add-from
+overflow_add-from c = omega (arith, part_room c.args.w (length c.args.part.now) c.loop-row.row c.loop-row-test.true c.requires.whole)
 
-pub offset-bounds-part-from : goal.offset-bounds-part-from
-offset-bounds-part-from c = omega (arith, part_room c.args.w (length c.args.part.now) c.loop-row.row c.loop-row-test.true c.requires.whole)
+pub offset_bounds-part-from : goal.offset_bounds-part-from
+offset_bounds-part-from c = omega (arith, part_room c.args.w (length c.args.part.now) c.loop-row.row c.loop-row-test.true c.requires.whole)
 
-pub slice-bounds-copy-from-slice-end-in-loop-row : goal.slice-bounds-copy-from-slice-end-in-loop-row
-slice-bounds-copy-from-slice-end-in-loop-row c = omega (arith, part_room c.args.w (length c.args.part.now) c.loop-row.row c.loop-row-test.true c.requires.whole)
+pub slice_bounds-copy_from_slice-end-in-loop-row : goal.slice_bounds-copy_from_slice-end-in-loop-row
+slice_bounds-copy_from_slice-end-in-loop-row c = omega (arith, part_room c.args.w (length c.args.part.now) c.loop-row.row c.loop-row-test.true c.requires.whole)
 
 pub loop-row-preserved : goal.loop-row-preserved
 loop-row-preserved c =

@@ -3,8 +3,8 @@ use Rattle.std.proofs.lemmas.List.{take_more, take_all}
 use Rattle.netpbm.proofs.Samples.{within_at}
 use Rattle.netpbm.proofs.writer.put_narrow.Goals as goal
 
-pub overflow-cast-s : goal.overflow-cast-s
-overflow-cast-s c = omega (arith, within_at 255 c.args.samples.now c.loop-s.s-index c.requires c.loop-s-test.true)
+pub overflow_cast-s : goal.overflow_cast-s
+overflow_cast-s c = omega (arith, within_at 255 c.args.samples.now c.loop-s.s-index c.requires c.loop-s-test.true)
 
 pub loop-s-preserved : goal.loop-s-preserved
 loop-s-preserved c =

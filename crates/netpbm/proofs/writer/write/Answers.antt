@@ -11,8 +11,8 @@ use Rattle.netpbm.proofs.Trips.{Sound, written_read}
 use Rattle.netpbm.proofs.writer.write.Goals as goal
 use Rattle.netpbm.proofs.writer.write.Goals.{then-maxval-lt256+in_ok-put_narrow, else-maxval-lt256+in_ok-put_wide}
 
-pub put-narrow-requires : goal.put-narrow-requires
-put-narrow-requires c =
+pub put_narrow-requires : goal.put_narrow-requires
+put_narrow-requires c =
     let m = c.args.raster.now.maxval in
     ap (within 255) c.samples.ensures ∙ within_weaker m 255 _ (omega (arith, c.maxval.ensures)) c.args.raster.now.kept
 
@@ -27,10 +27,10 @@ returns c =
     let same = c.maxval.ensures in
     let e : vec_items c.if-maxval-lt256.out ≡ header_bytes p ++ sample_bytes m xs = elim c.if-maxval-lt256.branch [
       | then-maxval-lt256+in_ok-put_narrow w ↦
-          ap vec_items w.out-is ∙ w.in-ok-put-narrow.ensures ∙ ap (λ (q : List ℕ). q ++ w.samples.result.now) head
+          ap vec_items w.out-is ∙ w.in_ok-put_narrow.ensures ∙ ap (λ (q : List ℕ). q ++ w.samples.result.now) head
           ∙ ap (λ (q : List ℕ). header_bytes p ++ q) (w.samples.ensures ∙ sym (cond-true (ltb m 256) xs (flat_map pair_bytes xs) (lt-ltb m 256 (omega arith))))
       | else-maxval-lt256+in_ok-put_wide w ↦
-          ap vec_items w.out-is ∙ w.in-ok-put-wide.ensures ∙ ap (λ (q : List ℕ). q ++ flat_map pair_bytes w.samples-else-maxval-lt256.result.now) head
+          ap vec_items w.out-is ∙ w.in_ok-put_wide.ensures ∙ ap (λ (q : List ℕ). q ++ flat_map pair_bytes w.samples-else-maxval-lt256.result.now) head
           ∙ ap (λ (q : List ℕ). header_bytes p ++ q) (ap (flat_map pair_bytes) w.samples-else-maxval-lt256.ensures ∙ sym (cond-false (ltb m 256) xs (flat_map pair_bytes xs) (le-ltb m 256 (omega arith))))
     ] in
     let long = sym r.samples.ok.0 ∙ r.whole in

@@ -9,7 +9,7 @@ loop-j-init g c =
 
 pub loop-j-preserved : goal.loop-j-preserved
 loop-j-preserved g c = (
-  ap₂ ◌+◌ c.loop-j.invariant.0 c.broken-from-count.ensures.is
+  ap₂ ◌+◌ c.loop-j.invariant.0 c.broken_from-count.ensures.is
       ∙ sym (total_more (λ (j : ℕ). broken_from (g.B.BreakSource.broken c.args.source.now) c.args.r c.args.d c.args.x (c.args.y + j) c.args.columns) c.loop-j.j),
-  omega (arith, c.loop-j.invariant.1, c.broken-from-count.ensures.few, c.requires.narrow),
+  omega (arith, c.loop-j.invariant.1, c.broken_from-count.ensures.few, c.requires.narrow),
 )

@@ -6,17 +6,17 @@ use Rattle.plates.specs.Tallies.{starts, tally_in}
 use Rattle.plates.proofs.Sums.{lattice_few, starts_within}
 use Rattle.plates.proofs.gaps.count_gaps.Goals as goal
 
-pub overflow-mul-result : goal.overflow-mul-result
-overflow-mul-result g c =
+pub overflow_mul-result : goal.overflow_mul-result
+overflow_mul-result g c =
     let few = lattice_few c.args.frame.now c.args.r c.lattice-l.result c.lattice-l.ensures.is in
-    let s = starts_within c.lattice-l.result c.args.d c.starts-of-columns.result c.starts-of-columns.ensures in
-    let small : c.starts-of-columns.result.0 * c.starts-of-columns.result.1 ≤ 512 * 512 = mul-le _ _ 512 512 (omega (arith, few.columns, s.columns)) (omega (arith, few.rows, s.rows)) in
+    let s = starts_within c.lattice-l.result c.args.d c.starts_of-columns.result c.starts_of-columns.ensures in
+    let small : c.starts_of-columns.result.0 * c.starts_of-columns.result.1 ≤ 512 * 512 = mul-le _ _ 512 512 (omega (arith, few.columns, s.columns)) (omega (arith, few.rows, s.rows)) in
     omega (arith, small)
 
-pub broken-rows-requires : goal.broken-rows-requires
-broken-rows-requires g c =
+pub broken_rows-requires : goal.broken_rows-requires
+broken_rows-requires g c =
     let few = lattice_few c.args.frame.now c.args.r c.lattice-l.result c.lattice-l.ensures.is in
-    let s = starts_within c.lattice-l.result c.args.d c.starts-of-columns.result c.starts-of-columns.ensures in
+    let s = starts_within c.lattice-l.result c.args.d c.starts_of-columns.result c.starts_of-columns.ensures in
     record {
       right = omega (arith, few.right, s.columns);
       bottom = omega (arith, few.bottom, s.rows);
@@ -29,11 +29,11 @@ returns g c =
     let broken = g.B.BreakSource.broken c.args.source.now in
     let l = c.lattice-l.result in
     let few = lattice_few c.args.frame.now c.args.r l c.lattice-l.ensures.is in
-    let s = starts_within l c.args.d c.starts-of-columns.result c.starts-of-columns.ensures in
-    let small : c.starts-of-columns.result.0 * c.starts-of-columns.result.1 ≤ 512 * 512 = mul-le _ _ 512 512 (omega (arith, few.columns, s.columns)) (omega (arith, few.rows, s.rows)) in
+    let s = starts_within l c.args.d c.starts_of-columns.result c.starts_of-columns.ensures in
+    let small : c.starts_of-columns.result.0 * c.starts_of-columns.result.1 ≤ 512 * 512 = mul-le _ _ 512 512 (omega (arith, few.columns, s.columns)) (omega (arith, few.rows, s.rows)) in
     record {
-      is = ap (λ (b : ℕ). let t : Tally = record { gaps = c.starts-of-columns.result.0 * c.starts-of-columns.result.1; broken = b } in t) c.broken_rows.ensures.is
-          ∙ ap (tally_in broken c.args.r c.args.d l) c.starts-of-columns.ensures
+      is = ap (λ (b : ℕ). let t : Tally = record { gaps = c.starts_of-columns.result.0 * c.starts_of-columns.result.1; broken = b } in t) c.broken_rows.ensures.is
+          ∙ ap (tally_in broken c.args.r c.args.d l) c.starts_of-columns.ensures
           ∙ ap (λ (v : Lattice). tally_in broken c.args.r c.args.d v (starts v c.args.d)) c.lattice-l.ensures.is;
       few = (small, c.broken_rows.ensures.few);
     }

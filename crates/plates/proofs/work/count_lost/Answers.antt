@@ -9,6 +9,6 @@ loop-k-init c = (total_none (λ (k : ℕ). weigh (lost c.args.plane.now c.args.s
 
 pub loop-k-preserved : goal.loop-k-preserved
 loop-k-preserved c = (
-  ap₂ ◌+◌ c.loop-k.invariant.0 c.lost-at-count.ensures.is ∙ sym (total_more (λ (k : ℕ). weigh (lost c.args.plane.now c.args.samples.now k)) c.loop-k.k),
-  omega (arith, c.loop-k.invariant.1, c.lost-at-count.ensures.one),
+  ap₂ ◌+◌ c.loop-k.invariant.0 c.lost_at-count.ensures.is ∙ sym (total_more (λ (k : ℕ). weigh (lost c.args.plane.now c.args.samples.now k)) c.loop-k.k),
+  omega (arith, c.loop-k.invariant.1, c.lost_at-count.ensures.one),
 )

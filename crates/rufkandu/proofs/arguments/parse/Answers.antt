@@ -22,17 +22,17 @@ faulty ws p (OtherFlag w) has f = (p, has)
 faulty ws p (NoValue w) has f = (p, has)
 faulty ws p (NotNumber a w) has f = (p, has)
 
-pub returns-in-err-flags : goal.returns-in-err-flags
-returns-in-err-flags c =
+pub returns-in_err-flags : goal.returns-in_err-flags
+returns-in_err-flags c =
     let ws = c.args.words.now in
     let begins : Begins ws = search rules in
-    let u = c.in-err-flags.field-0.0 in
-    let p = err_from_is_err_and c.from-residual.result c.from-residual.ensures.1 in
-    let e : c.from-residual.result ≡ Err u = p.1 ∙ ap (λ (v : Usage). let r : Result Job Usage = Err v in r) p.2 in
-    subst (ParseOf ws) (sym e) (faulty ws _ u (begins, second ws (record { ref_ptr = (0, 0); now = [] }) (search rules)) c.in-err-flags.ensures)
+    let u = c.in_err-flags.field-0.0 in
+    let p = err_from_is_err_and c.from_residual.result c.from_residual.ensures.1 in
+    let e : c.from_residual.result ≡ Err u = p.1 ∙ ap (λ (v : Usage). let r : Result Job Usage = Err v in r) p.2 in
+    subst (ParseOf ws) (sym e) (faulty ws _ u (begins, second ws (record { ref_ptr = (0, 0); now = [] }) (search rules)) c.in_err-flags.ensures)
 
-pub returns-in-default-levels : goal.returns-in-default-levels
-returns-in-default-levels c =
+pub returns-in_default-levels : goal.returns-in_default-levels
+returns-in_default-levels c =
     let begins : Begins c.args.words.now = search rules in
     (_, (begins, second c.args.words.now (record { ref_ptr = (0, 0); now = [] }) (search rules)))
 

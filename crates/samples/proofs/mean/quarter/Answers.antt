@@ -26,8 +26,8 @@ sum_is a b f g =
     let whole = quarter_parts a b f g in
     cc (to_z-of_z w32 a f, to_z-of_z w32 b g, to_z-of_z w32 (shr_z a 4) f', to_z-of_z w32 (shr_z b 4) g', to_z-of_z w32 (shr_z a 4 +ℤ shr_z b 4) s)
 
-pub overflow-add-result-4 : goal.overflow-add-result-4
-overflow-add-result-4 c = rw (sum_is c.args.a c.args.b c.ranges.a c.ranges.b) (quarter_fits c.args.a c.args.b c.ranges.a c.ranges.b)
+pub overflow_add-result-4 : goal.overflow_add-result-4
+overflow_add-result-4 c = rw (sum_is c.args.a c.args.b c.ranges.a c.ranges.b) (quarter_fits c.args.a c.args.b c.ranges.a c.ranges.b)
 
 pub returns : goal.returns
 returns c =

@@ -12,16 +12,16 @@ loop-k-preserved g c =
     let k = c.loop-k.k in
     let fresh : FlagsOf broken run k c.match-point.pair =
     elim c.match-point.branch [
-      | goal.in-Some+in-Some-gap-before w ↦
+      | goal.in-Some+in-Some-gap_before w ↦
           flags_of broken run k _ _ _ w.in-Some.p w.pair-is w.in-Some.ensures
-          (w.gap-pair-in-Some-gap-before.ensures ∙ before_some broken r d w.in-Some.p w.in-Some-gap-before.g w.in-Some-gap-before.ensures)
-          (w.gap-pair.ensures ∙ ap broken w.gap-after.ensures)
-      | goal.in-Some+in-default-gap-before w ↦
+          (w.gap-pair-in-Some-gap_before.ensures ∙ before_some broken r d w.in-Some.p w.in-Some-gap_before.g w.in-Some-gap_before.ensures)
+          (w.gap-pair.ensures ∙ ap broken w.gap_after.ensures)
+      | goal.in-Some+in_default-gap_before w ↦
           flags_of broken run k _ _ _ w.in-Some.p w.pair-is w.in-Some.ensures
-          (before_none broken r d w.in-Some.p w.in-default-gap-before.ensures)
-          (w.gap-pair.ensures ∙ ap broken w.gap-after.ensures)
-      | goal.in-default w ↦
-          let far = far_broken broken (g.Self.BreakSource.framed c.args.self.now) (g.Self.BreakSource.outside c.args.self.now) r d (point_in run k) w.in-default.ensures in
+          (before_none broken r d w.in-Some.p w.in_default-gap_before.ensures)
+          (w.gap-pair.ensures ∙ ap broken w.gap_after.ensures)
+      | goal.in_default w ↦
+          let far = far_broken broken (g.Self.BreakSource.framed c.args.self.now) (g.Self.BreakSource.outside c.args.self.now) r d (point_in run k) w.in_default.ensures in
           flags_of broken run k _ _ _ (point_in run k) w.pair-is refl far.0 far.1
     ] in
     filled_more broken run c.loop-k.flags k c.match-point.pair (omega arith) fresh c.loop-k.invariant

@@ -1,5 +1,5 @@
 use Rattle.std.proofs.Common.{length}
 use Rattle.commands.proofs.arguments.Flags.+and_all.Given as goal
 
-abbrev pub decreases-and-all : goal.decreases-and-all
-decreases-and-all l = length l.words.now
+abbrev pub decreases-and_all : goal.decreases-and_all
+decreases-and_all l = length l.words.now

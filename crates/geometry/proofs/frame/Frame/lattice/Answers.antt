@@ -21,13 +21,13 @@ returns-then-r-self c =
     let e = sym (cond-false (leb c.args.r f.corners.levels) (lattice_at (corners_of f) c.args.r) no_lattice (lt-leb c.args.r f.corners.levels c.if-r-self.true)) in
     record { is = e; steps = lawful f c.args.r _ e; spots = spots (corners_of f) c.args.r }
 
-pub overflow-sub-result : goal.overflow-sub-result
-overflow-sub-result c =
+pub overflow_sub-result : goal.overflow_sub-result
+overflow_sub-result c =
     let a = answered (corners_of c.args.self.now) c.args.r _ c.if-r-self.false c.resolution-left.ensures in
     omega (arith, a.left, a.right, (extent c.args.self.now c.args.r Row).ordered)
 
-pub overflow-sub-result-2 : goal.overflow-sub-result-2
-overflow-sub-result-2 c =
+pub overflow_sub-result-2 : goal.overflow_sub-result-2
+overflow_sub-result-2 c =
     let a = answered (corners_of c.args.self.now) c.args.r _ c.if-r-self.false c.resolution-left.ensures in
     omega (arith, a.top, a.bottom, (extent c.args.self.now c.args.r Column).ordered)
 
@@ -48,14 +48,14 @@ module _ (c : goal.After-resolution-left) where
       let y = extent c.args.self.now c.args.r Column in
       scaled _ _ _ _ _ _ a.top c.apart-n.ensures.is y.starts y.over c.apart-n.ensures.few c.args.self.now.high
 
-pub overflow-mul-left : goal.overflow-mul-left
-overflow-mul-left c = omega (arith, across c, c.args.self.now.right)
+pub overflow_mul-left : goal.overflow_mul-left
+overflow_mul-left c = omega (arith, across c, c.args.self.now.right)
 
-pub overflow-mul-top : goal.overflow-mul-top
-overflow-mul-top c = omega (arith, down c, c.args.self.now.bottom)
+pub overflow_mul-top : goal.overflow_mul-top
+overflow_mul-top c = omega (arith, down c, c.args.self.now.bottom)
 
-pub place-of-requires : goal.place-of-requires
-place-of-requires c = ((across c).0, ((down c).0, ((across c).1, (down c).1)))
+pub place_of-requires : goal.place_of-requires
+place_of-requires c = ((across c).0, ((down c).0, ((across c).1, (down c).1)))
 
 pub returns : goal.returns
 returns c =

@@ -3,11 +3,11 @@ use Rattle.std.proofs.lemmas.Nat.{mul-le}
 use Rattle.netpbm.proofs.Cuts.{inside_parts}
 use Rattle.netpbm.proofs.raster.Raster.window.Goals as goal
 
-pub cut-rows-requires : goal.cut-rows-requires
-cut-rows-requires c =
+pub cut_rows-requires : goal.cut_rows-requires
+cut_rows-requires c =
     let r = c.args.self.now in
     let t = c.args.w in
-    let p = inside_parts t c.width.result c.height.result (sym c.if-not-lies-inside.ensures) in
+    let p = inside_parts t c.width.result c.height.result (sym c.if-not-lies_inside.ensures) in
     let w1 = c.width.ensures in
     let w2 = c.width-2.ensures in
     let h1 = c.height.ensures in

@@ -22,4 +22,4 @@ within c n p (Ok j) e = go (eqb n (plane_length c)) (inside c p) (eqb-true n (pl
     go false there l t e = absurd (let z : ◌≡◌ {A = ℕ} 0 1 = cc in omega arith)
 
 pub returns : goal.returns
-returns c = record { answer = c.place-in.ensures; within = within (corners_of c.args.frame.now) c.args.length c.args.p c.place-in.result c.place-in.ensures }
+returns c = record { answer = c.place_in.ensures; within = within (corners_of c.args.frame.now) c.args.length c.args.p c.place_in.result c.place_in.ensures }
