@@ -13,7 +13,7 @@ OWN = [("overflow", "add sub mul shl shr cast neg step".split()), ("nonzero", ["
 
 
 def words_of(crate):
-    found = {"from_residual"}
+    found = {"from_residual", "type_inv"}
     for folder, _, names in os.walk(os.path.join(crate, "src")):
         for n in names:
             with open(os.path.join(folder, n), encoding="utf-8") as f:

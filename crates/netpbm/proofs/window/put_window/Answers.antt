@@ -24,5 +24,8 @@ returns-then-part-size c = record { answer = search rules; after = search rules;
 pub returns-then-size-part : goal.returns-then-size-part
 returns-then-size-part c = record { answer = search rules; after = search rules; own = search rules; taken = own_taken; joined = joined_windows }
 
-pub returns : goal.returns
-returns c = record { answer = search rules; after = search rules; own = search rules; taken = own_taken; joined = joined_windows }
+pub returns-clause-taken : goal.returns-clause-taken
+returns-clause-taken c = own_taken
+
+pub returns-clause-joined : goal.returns-clause-joined
+returns-clause-joined c = joined_windows

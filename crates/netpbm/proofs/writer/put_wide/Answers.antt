@@ -9,7 +9,7 @@ loop-s-preserved c =
     let xs = c.args.samples.now in
     let i = c.loop-s.s-index in
     let x = get_or xs i 0 in
-    let fits = (c.type-inv.samples i).fits in
+    let fits = (c.type_inv.samples i).fits in
     let high : x / 256 % 256 ≡ x / 256 = omega arith in
     let both : c.to_be_bytes.result ≡ pair_bytes x = c.to_be_bytes.ensures ∙ ap (λ (n : ℕ). n ∷ x % 256 ∷ []) high in
     c.in_ok-extend_from_slice.ensures.items ∙ ap (λ (q : List ℕ). q ++ c.to_be_bytes.result) c.loop-s.invariant
