@@ -12,6 +12,6 @@ lift_part-requires g c = record {
 
 pub returns : goal.returns
 returns g c =
-    column_moves (meant g.Sample.Sample.kind (g.S.Step.rule c.args.step.now)) (g.B.BreakSource.broken c.args.source.now) c.args.r
+    column_moves (meant g.S.Sample.Sample.kind (g.S.Step.rule c.args.step.now)) (g.B.BreakSource.broken c.args.source.now) c.args.r
     (not (eqb (value_of (number g.row.ODD)) 0)) (not (eqb (value_of (number g.row.JOIN)) 0)) c.args.l c.args.plane.now c.lift_part.new.plane c.args.j _ c.reach.result c.reach-2.result
     c.requires.row c.requires.parity (front_length c.args.flags.now c.args.l.columns (omega (arith, c.requires.long, c.requires.small.columns))) c.reach.ensures c.reach-2.ensures c.lift_part.ensures

@@ -10,5 +10,5 @@ lift_lines-requires-2 g c = subst (Small c.args.l) (sym c.lift_lines.auto.plane)
 
 pub returns : goal.returns
 returns g c =
-    both_of (meant g.Sample.Sample.kind (g.S.Step.rule c.args.step.now)) (g.B.BreakSource.broken c.args.source.now) c.args.r c.args.d
+    both_of (meant g.S.Sample.Sample.kind (g.S.Step.rule c.args.step.now)) (g.B.BreakSource.broken c.args.source.now) c.args.r c.args.d
     (not (eqb (value_of (number g.row.FIRST)) 0)) (not (eqb (value_of (number g.row.SECOND)) 0)) c.args.l c.args.plane.now c.lift_lines.new.plane c.lift_lines-2.new.plane c.lift_lines.ensures c.lift_lines-2.ensures

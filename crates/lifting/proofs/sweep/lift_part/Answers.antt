@@ -8,7 +8,7 @@ use Rattle.lifting.proofs.sweep.lift_part.Goals as goal
 
 pub returns : goal.returns
 returns g c k xs outside long part come =
-    let m = meant g.Sample.Sample.kind (g.S.Step.rule c.args.step.now) in
+    let m = meant g.S.Sample.Sample.kind (g.S.Step.rule c.args.step.now) in
     let broken = g.B.BreakSource.broken c.args.source.now in
     let odd = not (eqb (value_of (number g.row.ODD)) 0) in
     let join = not (eqb (value_of (number g.row.JOIN)) 0) in

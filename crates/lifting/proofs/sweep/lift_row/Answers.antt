@@ -9,7 +9,7 @@ use Rattle.lifting.proofs.sweep.lift_row.Goals as goal
 
 pub returns-in-Row : goal.returns-in-Row
 returns-in-Row g c =
-    let m = meant g.Sample.Sample.kind (g.S.Step.rule c.args.step.now) in
+    let m = meant g.S.Sample.Sample.kind (g.S.Step.rule c.args.step.now) in
     let broken = g.B.BreakSource.broken c.args.source.now in
     let odd = not (eqb (value_of (number g.row.ODD)) 0) in
     let join = not (eqb (value_of (number g.row.JOIN)) 0) in

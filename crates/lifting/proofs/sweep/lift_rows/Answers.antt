@@ -8,7 +8,7 @@ use Rattle.lifting.proofs.Rows.{rows_none, rows_all, moves_on, moves_row}
 use Rattle.lifting.proofs.sweep.lift_rows.Goals as goal
 
 pub loop-j-init : goal.loop-j-init
-loop-j-init g c = rows_none (meant g.Sample.Sample.kind (g.S.Step.rule c.args.step.now)) (g.B.BreakSource.broken c.args.source.now) c.args.r c.args.d (not (eqb (value_of (number g.row.ODD)) 0)) (not (eqb (value_of (number g.row.JOIN)) 0)) c.args.l c.args.plane.now c.args.plane.now
+loop-j-init g c = rows_none (meant g.S.Sample.Sample.kind (g.S.Step.rule c.args.step.now)) (g.B.BreakSource.broken c.args.source.now) c.args.r c.args.d (not (eqb (value_of (number g.row.ODD)) 0)) (not (eqb (value_of (number g.row.JOIN)) 0)) c.args.l c.args.plane.now c.args.plane.now
 
 pub lift_row-requires : goal.lift_row-requires
 lift_row-requires g c = record {
@@ -19,7 +19,7 @@ lift_row-requires g c = record {
 
 pub loop-j-preserved : goal.loop-j-preserved
 loop-j-preserved g c =
-    moves_row (meant g.Sample.Sample.kind (g.S.Step.rule c.args.step.now)) (g.B.BreakSource.broken c.args.source.now) c.args.r c.args.d (not (eqb (value_of (number g.row.ODD)) 0)) (not (eqb (value_of (number g.row.JOIN)) 0)) c.args.l c.loop-j.j c.args.plane.now c.loop-j.plane c.lift_row.new.plane c.loop-j.invariant c.lift_row.ensures
+    moves_row (meant g.S.Sample.Sample.kind (g.S.Step.rule c.args.step.now)) (g.B.BreakSource.broken c.args.source.now) c.args.r c.args.d (not (eqb (value_of (number g.row.ODD)) 0)) (not (eqb (value_of (number g.row.JOIN)) 0)) c.args.l c.loop-j.j c.args.plane.now c.loop-j.plane c.lift_row.new.plane c.loop-j.invariant c.lift_row.ensures
 
 pub returns : goal.returns
-returns g c = rows_all (meant g.Sample.Sample.kind (g.S.Step.rule c.args.step.now)) (g.B.BreakSource.broken c.args.source.now) c.args.r c.args.d (not (eqb (value_of (number g.row.ODD)) 0)) (not (eqb (value_of (number g.row.JOIN)) 0)) c.args.l c.args.plane.now c.loop-j.plane c.loop-j.j c.loop-j-test.false c.loop-j.invariant
+returns g c = rows_all (meant g.S.Sample.Sample.kind (g.S.Step.rule c.args.step.now)) (g.B.BreakSource.broken c.args.source.now) c.args.r c.args.d (not (eqb (value_of (number g.row.ODD)) 0)) (not (eqb (value_of (number g.row.JOIN)) 0)) c.args.l c.args.plane.now c.loop-j.plane c.loop-j.j c.loop-j-test.false c.loop-j.invariant

@@ -12,7 +12,7 @@ loop-k-init g c = refl
 
 pub loop-k-preserved : goal.loop-k-preserved
 loop-k-preserved g c =
-    let m = meant g.Sample.Sample.kind (g.S.Step.rule c.args.step.now) in
+    let m = meant g.S.Sample.Sample.kind (g.S.Step.rule c.args.step.now) in
     let join = op m (not (eqb (value_of (number g.row.JOIN)) 0)) in
     let by = amount m (not (eqb (value_of (number g.row.ODD)) 0)) in
     let k = c.loop-k.k in

@@ -13,6 +13,6 @@ lift_part-requires g c = record {
 
 pub returns : goal.returns
 returns g c =
-    row_moves (meant g.Sample.Sample.kind (g.S.Step.rule c.args.step.now)) (g.B.BreakSource.broken c.args.source.now) c.args.r
+    row_moves (meant g.S.Sample.Sample.kind (g.S.Step.rule c.args.step.now)) (g.B.BreakSource.broken c.args.source.now) c.args.r
     (not (eqb (value_of (number g.row.ODD)) 0)) (not (eqb (value_of (number g.row.JOIN)) 0)) c.args.l c.args.plane.now c.lift_part.new.plane c.args.j c.args.i c.args.n _ c.args.back c.args.forth
     c.requires.row c.requires.columns c.requires.parity c.requires.back.1 c.requires.forth.0 (front_length c.args.flags.now c.args.n (omega (arith, c.requires.long, c.requires.near.1))) c.lift_part.ensures

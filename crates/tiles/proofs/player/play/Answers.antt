@@ -11,11 +11,11 @@ use Rattle.tiles.proofs.player.play.Goals as goal
 
 -- the kind and the step that are given, and that they keep their meaning
 meaning : (g : given.Over) → g.row.S.Denot → Meaning g.row.S-Sample.Denot
-meaning g s = meant g.Sample.Sample.kind (g.S.Step.rule s)
+meaning g s = meant g.S.Sample.Sample.kind (g.S.Step.rule s)
 
 lawful : (g : given.Over) (s : g.row.S.Denot) → Lawful (meaning g s)
 unfolding meaning
-lawful g s = record { kind = g.met.Sample.Sample.lawful; step = g.met.S.Step.lawful s }
+lawful g s = record { kind = g.met.S.Sample.Sample.lawful; step = g.met.S.Step.lawful s }
 
 pub returns-in_err-tile : goal.returns-in_err-tile
 unfolding meaning

@@ -7,6 +7,6 @@ use Rattle.tiles.proofs.player.play.Given as goal
 
 abbrev pub invariant-loop-n : goal.invariant-loop-n
 invariant-loop-n g l =
-    Made (meant g.Sample.Sample.kind (g.S.Step.rule l.step)) (g.B.BreakSource.framed l.source) (g.B.BreakSource.broken l.source)
+    Made (meant g.S.Sample.Sample.kind (g.S.Step.rule l.step)) (g.B.BreakSource.framed l.source) (g.B.BreakSource.broken l.source)
     (with_plane (any_tile l.initial.tile) l.initial.plane) l.calls (vec_items l.events) (with_plane (any_tile l.tile) l.plane) l.n
     × (length l.calls ≤ vec_capacity l.events)

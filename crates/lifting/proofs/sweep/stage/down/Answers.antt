@@ -8,8 +8,8 @@ use Rattle.lifting.proofs.sweep.stage.down.Goals as goal
 pub returns : goal.returns
 unfolding stage_down
 returns g c =
-    let m = meant g.Sample.Sample.kind (g.S.Step.rule c.args.step.now) in
-    let laws : Lawful m = record { kind = g.met.Sample.Sample.lawful; step = g.met.S.Step.lawful c.args.step.now } in
+    let m = meant g.S.Sample.Sample.kind (g.S.Step.rule c.args.step.now) in
+    let laws : Lawful m = record { kind = g.met.S.Sample.Sample.lawful; step = g.met.S.Step.lawful c.args.step.now } in
     let k = corners_of c.args.frame.now in
     let home = g.B.BreakSource.framed c.args.source.now in
     let broken = g.B.BreakSource.broken c.args.source.now in

@@ -19,7 +19,7 @@ lift_both-requires-2 g c =
 
 pub returns : goal.returns
 returns g c =
-    let m = meant g.Sample.Sample.kind (g.S.Step.rule c.args.step.now) in
+    let m = meant g.S.Sample.Sample.kind (g.S.Step.rule c.args.step.now) in
     let k = corners_of c.args.frame.now in
     let home = g.B.BreakSource.framed c.args.source.now in
     let broken = g.B.BreakSource.broken c.args.source.now in
