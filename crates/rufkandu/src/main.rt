@@ -19,15 +19,12 @@ use geometry::frame::Frame;
 use geometry::point::Point;
 use netpbm::{Raster, Window, read, window_at, windows_across};
 use std::alloc::{AllocError, Global};
+use std::process::ExitCode;
 use std::{env, fs, io};
 use work::{count_lost, frame_at, numbers, there_and_back};
 
 // The side of a tile.
 const SIDE: usize = 512;
-
-// The run failed; why is on standard error.
-#[derive(Drop)]
-struct Failed;
 
 // The picture in a file.
 fn load<'a>(rt: &HostRuntime, name: &'a str) -> Result<Raster, Failure<'a>> {
@@ -227,16 +224,16 @@ fn words(rt: &HostRuntime) -> io::Result<Vec<String>> {
     Ok(env::args(rt)?.collect(rt.alloc())?)
 }
 
-fn main(rt: HostRuntime) -> Result<(), Failed> {
+fn main(rt: HostRuntime) -> ExitCode {
     let Ok(words) = words(&rt) else {
         let _ = eprintln!(rt; "rufkandu: the arguments cannot be read");
-        return Err(Failed);
+        return ExitCode::FAILURE;
     };
     match run(&rt, words.as_slice()) {
-        Ok(()) => Ok(()),
+        Ok(()) => ExitCode::SUCCESS,
         Err(why) => {
             let _ = eprintln!(rt; "rufkandu: {why}");
-            Err(Failed)
+            ExitCode::FAILURE
         }
     }
 }

@@ -9,11 +9,8 @@ mod replay;
 use commands::arguments::{Command, parse};
 use failure::Failure;
 use std::alloc::{AllocError, Global};
+use std::process::ExitCode;
 use std::{env, io};
-
-// The run failed; why has been said.
-#[derive(Drop)]
-struct Failed;
 
 // The words after the program's name.
 fn after_name<'a>(heap: Global, words: &'a [String]) -> Result<Vec<&'a str>, AllocError> {
@@ -38,18 +35,18 @@ fn words(rt: &HostRuntime) -> io::Result<Vec<String>> {
     Ok(env::args(rt)?.collect(rt.alloc())?)
 }
 
-fn main(rt: HostRuntime) -> Result<(), Failed> {
+fn main(rt: HostRuntime) -> ExitCode {
     let Ok(words) = words(&rt) else {
         let _ = eprintln!(rt; "rufkandu: the arguments cannot be read");
-        return Err(Failed);
+        return ExitCode::FAILURE;
     };
     match run(&rt, words.as_slice()) {
-        Ok(()) => Ok(()),
+        Ok(()) => ExitCode::SUCCESS,
         // The transcript ends with the call.
-        Err(Failure::NotAllowed) => Err(Failed),
+        Err(Failure::NotAllowed) => ExitCode::FAILURE,
         Err(why) => {
             let _ = eprintln!(rt; "rufkandu: {why}");
-            Err(Failed)
+            ExitCode::FAILURE
         }
     }
 }
