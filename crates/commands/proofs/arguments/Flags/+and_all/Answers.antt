@@ -6,25 +6,25 @@ use Rattle.commands.proofs.Verbs.{rest}
 use Rattle.commands.proofs.Flagging.{falls, one_more}
 use Rattle.commands.proofs.arguments.Flags.+and_all.Goals as goal
 
-pub returns-in_err-next : goal.returns-in_err-next
-returns-in_err-next t c =
+pub returns-in_err-next-in-len1-up : goal.returns-in_err-next-in-len1-up
+returns-in_err-next-in-len1-up t c =
     let ws = c.args.words.now in
     let some : 0 < length ws = search rules in
     let p = err_from_is_err_and c.from_residual.result c.from_residual.ensures.1 in
-    rw (p.1, p.2) (0, (some, subst (λ (vs : Words). BadFlag c.args.states (word ws 0) vs c.in_err-next.field-0.0) (rest ws some) c.in_err-next.ensures))
+    rw (p.1, p.2) (0, (some, subst (λ (vs : Words). BadFlag c.args.states (word ws 0) vs c.in_err-next-in-len1-up.field-0.0) (rest ws some) c.in_err-next-in-len1-up.ensures))
 
 pub and_all-requires : goal.and_all-requires
 and_all-requires t c =
     let ws = c.args.words.now in
     let some : 0 < length ws = search rules in
-    let less = falls c.args.states (text ws 0) ws c.args.self c.in_ok-next.next c.in_ok-next.rest.now some c.in_ok-next.ensures in
+    let less = falls c.args.states (text ws 0) ws c.args.self c.in_ok-next-in-len1-up.next c.in_ok-next-in-len1-up.rest.now some c.in_ok-next-in-len1-up.ensures in
     (omega (arith, less, c.decreases), tt)
 
-pub returns-in_ok-next : goal.returns-in_ok-next
-returns-in_ok-next t c =
+pub returns-in_ok-next-in-len1-up : goal.returns-in_ok-next-in-len1-up
+returns-in_ok-next-in-len1-up t c =
     let ws = c.args.words.now in
     let some : 0 < length ws = search rules in
-    let next = c.in_ok-next.next in
-    let more = c.in_ok-next.rest.now in
+    let next = c.in_ok-next-in-len1-up.next in
+    let more = c.in_ok-next-in-len1-up.rest.now in
     one_more c.args.states ws c.args.self next more c.and_all.result some
-    (subst (λ (vs : Words). Flag c.args.states (text ws 0) vs c.args.self next more) (rest ws some) c.in_ok-next.ensures) c.and_all.ensures
+    (subst (λ (vs : Words). Flag c.args.states (text ws 0) vs c.args.self next more) (rest ws some) c.in_ok-next-in-len1-up.ensures) c.and_all.ensures
