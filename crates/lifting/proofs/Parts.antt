@@ -1,4 +1,4 @@
--- The rows of a resolution's lattice as parts of a sub_pass. Assumes nothing.
+-- The rows of a resolution's lattice as parts of a sub-pass. Assumes nothing.
 use Rattle.std.proofs.Common.{◌≡◌, ℕ, ◌+◌, ◌-◌, ◌*◌, ◌/◌, ◌%◌, ◌<◌, ◌≤◌, Bool, true, false, cond, ◌&&◌, ◌||◌, eqb, ltb, leb, ◌⊎◌, List, length, Some, None, Option, sym, refl, ap, ◌∙◌, subst, ap₂, inl, inr, mul_assoc, mul_comm, add-mul, one-mul, arith}
 use Rattle.std.proofs.lemmas.Bool.{cases_Bool, cases_lt, cond-true, cond-false, lt-ltb, le-ltb, le-leb, eqb-true, eq-eqb, ne_eqb}
 use Rattle.geometry.specs.declared.corners.Corners.{Corners}
@@ -62,7 +62,7 @@ module _ (c : Corners) (r : ℕ) (l : Lattice) (fine : r ≤ c.levels) (is : l �
   more : (j d : ℕ) → (j + 1) * d ≡ j * d + d
   more j d = add-mul j 1 d ∙ ap (λ (n : ℕ). j * d + n) (one-mul d)
 
-  -- a whole row in a column sub_pass
+  -- a whole row in a column sub-pass
   pub column_part : (odd : Bool) (j : ℕ) → j < l.rows → has_parity odd (l.top + j) ≡ true →
       PartOf c odd (record { resolution = r; direction = Column; first = record { x = l.left; y = l.top + j }; step = 1 })
       l.columns (l.first + j * l.down) (cond (ltb 0 j) l.down 0) (cond (ltb (j + 1) l.rows) l.down 0) l.across
@@ -94,7 +94,7 @@ module _ (c : Corners) (r : ℕ) (l : Lattice) (fine : r ≤ c.levels) (is : l �
   twice : (i k a : ℕ) → (i + 2 * k) * a ≡ i * a + k * (2 * a)
   twice i k a = add-mul i (2 * k) a ∙ ap (λ (n : ℕ). i * a + n) (ap (λ (n : ℕ). n * a) (mul_comm 2 k) ∙ mul_assoc k 2 a)
 
-  -- columns i, i + 2, .. of a row in a row sub_pass
+  -- columns i, i + 2, .. of a row in a row sub-pass
   pub row_part : (odd : Bool) (n j i back forth : ℕ) → j < l.rows → ((k : ℕ) → k < n → i + 2 * k < l.columns) → has_parity odd (l.left + i) ≡ true →
       ((k : ℕ) → k < n → 0 < i + 2 * k → back ≡ l.across) → ((k : ℕ) → k < n → i + 2 * k + 1 < l.columns → forth ≡ l.across) →
       PartOf c odd (record { resolution = r; direction = Row; first = record { x = l.left + i; y = l.top + j }; step = 2 })
@@ -123,7 +123,7 @@ module _ (c : Corners) (r : ℕ) (l : Lattice) (fine : r ≤ c.levels) (is : l �
             omega arith;
       }
 
-  -- moving on where no point of the sub_pass stands between
+  -- moving on where no point of the sub-pass stands between
   pub come_jump : {K : Type 0} (m : Meaning K) (broken : Breaks) (d : Direction) (odd join : Bool) (xs ys : List K) (x y u v : ℕ) →
       ((q : Point) → InLattice q → has_parity odd (along d q) ≡ true → earlier u v q ≡ earlier x y q) →
       ComeTo m c broken r d odd join xs x y ys → ComeTo m c broken r d odd join xs u v ys

@@ -1,4 +1,4 @@
--- How far the rows of a sub_pass bring it, and that they stay in the plane. Assumes nothing.
+-- How far the rows of a sub-pass bring it, and that they stay in the plane. Assumes nothing.
 use Rattle.std.proofs.Common.{◌≡◌, ℕ, ◌+◌, ◌-◌, ◌*◌, ◌/◌, ◌%◌, ◌<◌, ◌≤◌, Bool, true, false, cond, eqb, ltb, ◌⊎◌, List, length, take, sym, refl, ap, ◌∙◌, subst, ap₂, inl, inr, mul_assoc, mul_comm, add-mul, one-mul, le-mul_of_pos_right, arith}
 use Rattle.std.proofs.lemmas.List.{length-take-le}
 use Rattle.std.proofs.lemmas.Bool.{cases_Bool, cases_lt, cases_order, cond-true, cond-false, lt-ltb, le-ltb, true≢false}
@@ -48,7 +48,7 @@ earlier_next x y q all = elim (cases_order q.y y) [
     last (inr (inr l)) = earlier_never 0 (y + 1) q l ∙ sym (earlier_never x y q (omega arith))
 
 module _ {K : Type 0} (m : Meaning K) (broken : Breaks) (r : ℕ) (odd join : Bool) (l : Lattice) (old new : List K) where
-  -- a row of a column sub_pass
+  -- a row of a column sub-pass
   pub column_moves : (j n back forth : ℕ) → j < l.rows → has_parity odd (l.top + j) ≡ true → n ≡ l.columns → back ≡ cond (ltb 0 j) l.down 0 → forth ≡ cond (ltb (j + 1) l.rows) l.down 0 →
       Carries m broken odd join (record { resolution = r; direction = Column; first = record { x = l.left; y = l.top + j }; step = 1 }) n (l.first + j * l.down) back forth l.across old new →
       Moves m broken r Column odd join l 0 (l.top + j) 0 (l.top + j + 1) old new
@@ -65,7 +65,7 @@ module _ {K : Type 0} (m : Meaning K) (broken : Breaks) (r : ℕ) (odd join : Bo
       (come_jump c r l fine is m broken Column odd join xs old 0 (l.top + j) l.left (l.top + j)
       (λ q i t. earlier_apart 0 l.left (l.top + j) q (λ e. le-ltb q.x l.left i.left ∙ sym (le-ltb q.x 0 (omega arith)))) come))
 
-  -- points of a row in a row sub_pass
+  -- points of a row in a row sub-pass
   pub row_moves : (j i n len back forth : ℕ) → j < l.rows → ((k : ℕ) → k < n → i + 2 * k < l.columns) → has_parity odd (l.left + i) ≡ true →
       ((k : ℕ) → k < n → 0 < i + 2 * k → back ≡ l.across) → ((k : ℕ) → k < n → i + 2 * k + 1 < l.columns → forth ≡ l.across) →
       len ≡ n → Carries m broken odd join (record { resolution = r; direction = Row; first = record { x = l.left + i; y = l.top + j }; step = 2 }) len (l.first + j * l.down + i * l.across) back forth (2 * l.across) old new →
@@ -88,7 +88,7 @@ module _ {K : Type 0} (m : Meaning K) (broken : Breaks) (r : ℕ) (odd join : Bo
       subst (λ (ys : List K). ComeTo m c broken r Row odd join xs 0 (l.top + j + 1) ys) (sym e)
       (come_jump c r l fine is m broken Row odd join xs old x (l.top + j) 0 (l.top + j + 1) (λ q i t. earlier_next x (l.top + j) q (λ h. all q i.right t)) come)
 
-  -- a row of the other parity in a column sub_pass
+  -- a row of the other parity in a column sub-pass
   pub column_skips : (j : ℕ) → has_parity odd (l.top + j) ≡ false → new ≡ old → Moves m broken r Column odd join l 0 (l.top + j) 0 (l.top + j + 1) old new
   column_skips j par e c xs outside long fine is come =
       subst (λ (ys : List K). ComeTo m c broken r Column odd join xs 0 (l.top + j + 1) ys) (sym e)
@@ -106,7 +106,7 @@ pub moves_as : {K : Type 0} (m : Meaning K) (broken : Breaks) (r : ℕ) (d : Dir
 moves_as m broken r d odd join l x y u v s t a b p q f c xs outside long fine is come =
     subst (λ (n : ℕ). ComeTo m c broken r d odd join xs n v b) q (f c xs outside long fine is (subst (λ (n : ℕ). ComeTo m c broken r d odd join xs n y a) p come))
 
--- the three stretches of a row in a row sub_pass
+-- the three stretches of a row in a row sub-pass
 module _ {K : Type 0} (m : Meaning K) (broken : Breaks) (r : ℕ) (odd join : Bool) (l : Lattice) (old new : List K) (j : ℕ) where
   pub first_other : has_parity odd l.left ≡ false → new ≡ old → Moves m broken r Row odd join l 0 (l.top + j) (l.left + inner odd l) (l.top + j) old new
   first_other par e = row_skips m broken r odd join l old new j 0 (l.left + inner odd l) (λ q lo hi t.
@@ -145,7 +145,7 @@ module _ {K : Type 0} (m : Meaning K) (broken : Breaks) (r : ℕ) (odd join : Bo
       (moves_as m broken r Row odd join l (l.left + i) (l.top + j) (1 * 2 + (l.left + i)) (l.top + j) (l.left + (inner odd l + 2 * inner_count odd l)) (1 * 2 + (l.left + i)) old new (ap (λ (a : ℕ). l.left + a) (sym ei)) refl f)
       (row_ends m broken r odd join l new new j (1 * 2 + (l.left + i)) (λ q hi t. omega arith) refl)
 
--- the places of a row in a column sub_pass
+-- the places of a row in a column sub-pass
 module _ (l : Lattice) (size : ℕ) (small : Small l size) (j : ℕ) (hj : j < l.rows) where
   pub column_back : (back : ℕ) → back ≡ cond (ltb 0 j) l.down 0 → back ≤ l.first + j * l.down
   column_back back e = elim (cases_lt 0 j) [

@@ -45,7 +45,7 @@ pub record Come {K : Type 0} (z : K) (op : K → K → K) (amount : Option K →
 abbrev pub earlier : ℕ → ℕ → Point → Bool
 earlier x y p = nat_lt p.y y || (p.y == y && nat_lt p.x x)
 
--- the sub_pass over the plane xs has come to the point (x, y)
+-- the sub-pass over the plane xs has come to the point (x, y)
 abbrev pub ComeTo : {K : Type 0} → Meaning K → Corners → Breaks → ℕ → Direction → Bool → Bool → List K → ℕ → ℕ → List K → Type 0
 ComeTo m c broken r d odd join xs x y ys = Come m.kind.nothing (op m join) (amount m odd) (pass c broken r d odd) xs (λ k. on_point (earlier x y) (point_of c r k)) ys
 
@@ -53,7 +53,7 @@ ComeTo m c broken r d odd join xs x y ys = Come m.kind.nothing (op m join) (amou
 abbrev pub Outside : Corners → Breaks → Type 0
 Outside c broken = (g : Gap) → is_gap c g ≡ false → broken g ≡ true
 
--- n points of a run in a resolution's sub_pass, with the places of their samples and of their ends
+-- n points of a run in a resolution's sub-pass, with the places of their samples and of their ends
 pub record PartOf (c : Corners) (odd : Bool) (run : Run) (n here back forth stride : ℕ) : Type 0 where
   pub step : 0 < run.step
   pub point : (k : ℕ) → k < n → is_point c run.resolution (point_in run k) ≡ true
@@ -77,13 +77,13 @@ pub record Small (l : Lattice) (n : ℕ) : Type 0 where
   pub down : l.down ≤ 32768
   pub within : (i j : ℕ) → i < l.columns → j < l.rows → l.first + j * l.down + i * l.across < n
 
--- whatever frame the lattice is of, and whatever plane the sub_pass started from: if the plane `old` has come to (x, y), then `new` has come to (u, v)
+-- whatever frame the lattice is of, and whatever plane the sub-pass started from: if the plane `old` has come to (x, y), then `new` has come to (u, v)
 abbrev pub Moves : {K : Type 0} → Meaning K → Breaks → ℕ → Direction → Bool → Bool → Lattice → ℕ → ℕ → ℕ → ℕ → List K → List K → Type 0
 Moves {K} m broken r d odd join l x y u v old new =
     (c : Corners) (xs : List K) → Outside c broken → length xs ≡ plane_length c → r ≤ c.levels → l ≡ lattice_of c r →
     ComeTo m c broken r d odd join xs x y old → ComeTo m c broken r d odd join xs u v new
 
--- the first column of a row sub_pass that has a point before it, counted from the left
+-- the first column of a row sub-pass that has a point before it, counted from the left
 abbrev pub inner : Bool → Lattice → ℕ
 inner odd l = cond (has_parity odd l.left) 2 1
 
@@ -98,7 +98,7 @@ Carries {K} m broken odd join run n here back forth stride old new =
     ComeTo m c broken run.resolution run.direction odd join xs run.first.x run.first.y old →
     ComeTo m c broken run.resolution run.direction odd join xs (point_in run n).x run.first.y new
 
--- the sub_pass of whatever frame the lattice is of
+-- the sub-pass of whatever frame the lattice is of
 abbrev pub Passes : {K : Type 0} → Meaning K → Breaks → ℕ → Direction → Bool → Bool → Lattice → List K → List K → Type 0
 Passes m broken r d odd join l old new =
     (c : Corners) → Outside c broken → length old ≡ plane_length c → r ≤ c.levels → l ≡ lattice_of c r → new ≡ sub_pass m c broken r d odd join old

@@ -1,4 +1,4 @@
-// A sub_pass of a stage: the points of one parity on every line of a direction, row by row through the plane.
+// A sub-pass of a stage: the points of one parity on every line of a direction, row by row through the plane.
 // ODD: odd points, by the forecast; else even points, by the correction. JOIN: joined; else taken.
 ghost use Rattle.std.specs.Prelude.{◌≡◌, ℕ, ◌+◌, ◌-◌, ◌*◌, ◌<◌, ◌≤◌, true, ◌⊎◌, length, if◌then◌else◌};
 ghost use Rattle.geometry.specs.declared.direction.Direction.TheVariants.{Row, Column};
@@ -125,7 +125,7 @@ fn reach(there: bool, by: usize) -> usize
     if there { by } else { 0 }
 }
 
-// Row j of a column sub_pass: every point of the row, each from the points above and below it.
+// Row j of a column sub-pass: every point of the row, each from the points above and below it.
 fn column_row<S: Step, B: BreakSource, const ODD: bool, const JOIN: bool>(
     step: &S,
     source: &B,
@@ -160,7 +160,7 @@ fn column_row<S: Step, B: BreakSource, const ODD: bool, const JOIN: bool>(
     lift_part::<S, B, ODD, JOIN>(step, source, run, track, plane, &mut flags[0..n]);
 }
 
-// n points of row j in a row sub_pass: columns i, i + 2, .. counted from the left, each from the points left and right of it.
+// n points of row j in a row sub-pass: columns i, i + 2, .. counted from the left, each from the points left and right of it.
 fn row_part<S: Step, B: BreakSource, const ODD: bool, const JOIN: bool>(
     step: &S,
     source: &B,
@@ -202,7 +202,7 @@ fn row_part<S: Step, B: BreakSource, const ODD: bool, const JOIN: bool>(
     lift_part::<S, B, ODD, JOIN>(step, source, run, track, plane, &mut flags[0..n]);
 }
 
-// Whether a coordinate is one of the sub_pass.
+// Whether a coordinate is one of the sub-pass.
 fn is_parity<const ODD: bool>(t: u32) -> bool
     ensures { result ≡ has_parity ODD t }
 {
@@ -303,7 +303,7 @@ fn row_last<S: Step, B: BreakSource, const ODD: bool, const JOIN: bool>(
     row_part::<S, B, ODD, JOIN>(step, source, r, l, j, i, 1, l.across, 0, plane, flags);
 }
 
-// Row j of a sub_pass.
+// Row j of a sub-pass.
 fn lift_row<S: Step, B: BreakSource, const ODD: bool, const JOIN: bool>(
     step: &S,
     source: &B,
@@ -333,7 +333,7 @@ fn lift_row<S: Step, B: BreakSource, const ODD: bool, const JOIN: bool>(
     }
 }
 
-// Every row of a sub_pass.
+// Every row of a sub-pass.
 fn lift_rows<S: Step, B: BreakSource, const ODD: bool, const JOIN: bool>(
     step: &S,
     source: &B,

@@ -9,7 +9,7 @@ more ns i xs ys x h come is e =
 
 pub loop-s-preserved : goal.loop-s-preserved
 loop-s-preserved c =
-    more c.args.samples.now c.loop-s.s-index (vec_items c.loop-s.out) _ c.from.result (search rules) c.loop-s.invariant (search rules) (search rules)
+    more c.args.samples.now c.loop-s.s-index _ _ _ (search rules) c.loop-s.invariant (search rules) c.in_ok-push.ensures.items
 
 pub returns : goal.returns
 returns c = search (rules, take_all)
