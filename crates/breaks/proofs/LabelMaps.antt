@@ -1,5 +1,5 @@
 -- The finest points that a gap's two points stand for, and what a label map says of a gap. Assumes nothing.
-use Rattle.std.proofs.Common.{◌≡◌, ℕ, ◌+◌, ◌-◌, ◌*◌, ◌<◌, ◌≤◌, Bool, true, false, cond, not, eqb, sym, refl, ap, ◌∙◌, subst, ap₂, add-mul, arith}
+use Rattle.std.proofs.Common.{◌≡◌, ℕ, ◌*◌, ◌≤◌, true, false, not, eqb, sym, ap, ◌∙◌, subst, ap₂, add-mul, arith}
 use Rattle.std.proofs.lemmas.Bool.{cond-true, eq-eqb, ne_eqb}
 use Rattle.geometry.specs.declared.corners.Corners.{Corners}
 use Rattle.geometry.specs.declared.direction.Direction.{Direction}
@@ -8,7 +8,7 @@ use Rattle.geometry.specs.declared.gap.Gap.{Gap}
 use Rattle.geometry.specs.declared.point.Point.{Point}
 use Rattle.geometry.specs.Frames.{is_gap, apart, next}
 use Rattle.geometry.specs.Places.{finest}
-use Rattle.geometry.proofs.Bounds.{IsGap, gap_parts}
+use Rattle.geometry.proofs.Bounds.{gap_parts}
 use Rattle.geometry.proofs.Points.{Inside, finest_inside}
 use Rattle.breaks.specs.Labels.{Labelled, label, further, label_broken, label_outside}
 

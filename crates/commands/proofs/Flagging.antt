@@ -1,11 +1,11 @@
 -- The steps of reading flags. Assumes nothing.
-use Rattle.std.proofs.Common.{◌≡◌, ℕ, zero, suc, ◌-◌, ◌<◌, ◌≤◌, Bool, ◌⊎◌, List, length, take, drop, Ok, Err, codes, Result, sym, refl, ap, ◌∙◌, subst, inl, inr, arith, length-drop, MatchResult}
+use Rattle.std.proofs.Common.{◌≡◌, ℕ, zero, suc, ◌-◌, ◌<◌, ◌≤◌, Bool, ◌⊎◌, List, length, take, drop, Ok, Err, codes, Result, ap, ◌∙◌, subst, inl, inr, arith, length-drop, MatchResult}
 use Rattle.commands.specs.declared.arguments.Flags.{Flags}
 use Rattle.commands.specs.declared.arguments.Usage.{Usage}
 use Rattle.commands.specs.declared.arguments.Usage.TheVariants.{NoCommand, OtherCommand, NoScript, NoPlate, NoLevels, OtherFlag, NoValue, NotNumber}
 use Rattle.commands.specs.Words.{Word, Words, word, text}
 use Rattle.commands.proofs.Verbs.{rest}
-use Rattle.commands.specs.Commands.{First, Number, NoNumber, no_flags, Flag, BadFlag, Flagged, Misflagged, Unplated, Counted}
+use Rattle.commands.specs.Commands.{Number, NoNumber, no_flags, Flag, BadFlag, Flagged, Misflagged, Unplated, Counted}
 use Rattle.commands.specs.Commands.Flag.{flag_levels, flag_labels, flag_at, flag_bands}
 use Rattle.commands.specs.Commands.BadFlag.{unknown, no_value, no_second, no_number, no_second_number}
 

@@ -5,7 +5,7 @@ use Rattle.geometry.specs.declared.point.Point.{Point}
 use Rattle.tiles.specs.declared.call.Call.{Call}
 use Rattle.tiles.specs.declared.call.Call.TheVariants.{Put, Read, Begin, Down, Up, Finish}
 use Rattle.commands.specs.Words.{Words, text}
-use Rattle.commands.specs.Scripts.{verb, WritesPoint, Values, Writes, Said, SaidAfter}
+use Rattle.commands.specs.Scripts.{verb, WritesPoint, Values, Said, SaidAfter}
 
 -- verbs are told apart by their first letters
 first : {a b : List ℕ} → a ≡ b → get_or a 0 0 ≡ get_or b 0 0

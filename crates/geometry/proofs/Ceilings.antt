@@ -1,5 +1,5 @@
 -- Quotients rounded up. Assumes nothing.
-use Rattle.std.proofs.Common.{◌≡◌, ℕ, ◌+◌, ◌-◌, ◌*◌, ◌/◌, ◌%◌, ◌<◌, ◌≤◌, sym, mul_comm, div-lt_iff_lt-mul, add-mul, le-div_iff_mul-le, arith}
+use Rattle.std.proofs.Common.{◌≡◌, ℕ, ◌+◌, ◌-◌, ◌*◌, ◌/◌, ◌%◌, ◌<◌, ◌≤◌, mul_comm, div-lt_iff_lt-mul, add-mul, le-div_iff_mul-le, arith}
 use native.Mathlib.Nat.{div-add-mod}
 use Rattle.geometry.specs.Frames.{ceil}
 

@@ -1,12 +1,11 @@
 -- A lattice gives the place of each point of its resolution. Assumes nothing.
-use Rattle.std.proofs.Common.{◌≡◌, ℕ, ◌+◌, ◌-◌, ◌*◌, ◌<◌, ◌≤◌, true, leb, sym, refl, ap, ◌∙◌, subst, ap₂, mul_assoc, mul_comm, add-mul, arith}
+use Rattle.std.proofs.Common.{◌≡◌, ℕ, ◌+◌, ◌-◌, ◌*◌, ◌<◌, ◌≤◌, leb, sym, ap, ◌∙◌, subst, ap₂, mul_assoc, add-mul, arith}
 use Rattle.std.proofs.lemmas.Bool.{cond-true, le-leb}
 use Rattle.geometry.specs.declared.corners.Corners.{Corners}
 use Rattle.geometry.specs.declared.direction.Direction.TheVariants.{Row, Column}
 use Rattle.geometry.specs.declared.lattice.Lattice.{Lattice}
-use Rattle.geometry.specs.declared.point.Point.{Point}
 use Rattle.geometry.specs.Frames.{apart, width, low, high}
-use Rattle.geometry.specs.Places.{place, spot, corner, lattice_at, no_lattice, lattice_of, Steps}
+use Rattle.geometry.specs.Places.{place, spot, lattice_at, no_lattice, lattice_of, Steps}
 use Rattle.geometry.proofs.Ceilings.{ceil_le}
 use Rattle.geometry.proofs.Points.{point_parts, apart_pos}
 

@@ -1,14 +1,13 @@
 -- The place of a sample, and of a point of a resolution: the laws of both. Assumes nothing.
-use Rattle.std.proofs.Common.{◌≡◌, ℕ, zero, suc, ◌+◌, ◌-◌, ◌*◌, ◌/◌, ◌%◌, ◌^◌, ◌<◌, ◌≤◌, Bool, true, false, cond, ◌&&◌, eqb, ltb, leb, ◌⊎◌, Some, None, Option, sym, refl, ap, ◌∙◌, subst, ap₂, inl, inr, mod-lt, mul_comm, div-lt_iff_lt-mul, add-mul, mul-zero, mul-div_cancel, arith, pow_pos}
+use Rattle.std.proofs.Common.{◌≡◌, ℕ, zero, suc, ◌+◌, ◌-◌, ◌*◌, ◌/◌, ◌%◌, ◌<◌, ◌≤◌, Bool, true, false, cond, ◌&&◌, eqb, ltb, leb, Some, None, Option, sym, refl, ap, ◌∙◌, subst, ap₂, mod-lt, mul_comm, div-lt_iff_lt-mul, mul-zero, mul-div_cancel, arith, pow_pos}
 use native.Mathlib.Nat.{mul-mod_left, div-add-mod}
 use lib.Arith.{digits_div, digits_mod, digits_lt}
 use Rattle.std.proofs.lemmas.Bool.{and_parts, and_from, eqb-true, eq-eqb, ltb-true, lt-ltb, leb-true, le-leb, le-ltb, cond-true, cond-false}
 use Rattle.geometry.specs.declared.corners.Corners.{Corners}
-use Rattle.geometry.specs.declared.direction.Direction.{Direction}
 use Rattle.geometry.specs.declared.direction.Direction.TheVariants.{Row, Column}
 use Rattle.geometry.specs.declared.point.Point.{Point}
-use Rattle.geometry.specs.Frames.{width, height, ceil, apart, start, stop, low, high, between, is_point}
-use Rattle.geometry.specs.Places.{inside, plane_length, place, point_at, Places, finest, spot, coarse, point_of, Spots, lattice_of, Steps, corner}
+use Rattle.geometry.specs.Frames.{width, height, apart, low, high, between, is_point}
+use Rattle.geometry.specs.Places.{inside, plane_length, place, point_at, Places, finest, spot, coarse, point_of, Spots}
 use Rattle.geometry.proofs.Ceilings.{ceil_le, le_ceil, ceil_lt, lt_ceil, whole}
 
 pub apart_pos : (c : Corners) (r : ℕ) → 0 < apart c r

@@ -1,5 +1,5 @@
 -- Frames, resolutions, points and gaps. Assumes nothing.
-use Rattle.std.specs.Prelude.{ℕ, ◌+◌, ◌-◌, ◌*◌, ◌/◌, ◌^◌, Bool, true, false, cond, not, ◌&&◌, ◌||◌, [], ◌∷◌, ◌==◌, nat_le, nat_lt}
+use Rattle.std.specs.Prelude.{ℕ, ◌+◌, ◌-◌, ◌/◌, ◌^◌, Bool, cond, not, ◌&&◌, ◌||◌, [], ◌∷◌, ◌==◌, nat_le, nat_lt}
 use Rattle.geometry.specs.declared.corners.Corners.{Corners}
 use Rattle.geometry.specs.declared.direction.Direction.{Direction}
 use Rattle.geometry.specs.declared.direction.Direction.TheVariants.{Row, Column}
@@ -7,7 +7,7 @@ use Rattle.geometry.specs.declared.frame.Frame.{Frame}
 use Rattle.geometry.specs.declared.gap.Gap.{Gap}
 use Rattle.geometry.specs.declared.point.Point.{Point}
 use Rattle.geometry.specs.declared.refusal.Refusal.TheVariants.{EmptySide, TooLarge, TooManyLevels}
-use Rattle.geometry.specs.Refusals.{Answer, accepted, unless}
+use Rattle.geometry.specs.Refusals.{Answer, unless}
 
 abbrev pub width : Corners → ℕ
 width c = c.x1 - c.x0

@@ -1,5 +1,5 @@
 -- The refusals: their numbers, their order, and what a call answers. Assumes nothing.
-use Rattle.std.specs.Prelude.{ℕ, Bool, true, false, cond, List, [], ◌∷◌, Ok, Err, Result, ◌==◌}
+use Rattle.std.specs.Prelude.{ℕ, Bool, false, cond, List, [], ◌∷◌, Ok, Err, Result, ◌==◌}
 use Rattle.geometry.specs.declared.refusal.Refusal.{Refusal}
 use Rattle.geometry.specs.declared.refusal.Refusal.TheVariants.{EmptySide, TooLarge, TooManyLevels, WrongLength, NoSpan, BadMark, NoHalf, AlreadyMarked, Outside, WrongStage, OtherFrame, CutShort, WrongCount, NotRising, WrongKind, NoRoom}
 

@@ -1,5 +1,5 @@
 -- The ends of a point: never of its own parity, and joined to it by a whole gap. Assumes nothing.
-use Rattle.std.proofs.Common.{◌≡◌, ℕ, ◌+◌, ◌-◌, ◌%◌, ◌<◌, ◌≤◌, Bool, true, false, cond, not, ◌&&◌, eqb, Some, None, Option, sym, refl, ap, ◌∙◌, subst, ap₂, arith}
+use Rattle.std.proofs.Common.{◌≡◌, ℕ, ◌+◌, ◌-◌, ◌%◌, ◌<◌, Bool, true, false, cond, not, ◌&&◌, eqb, Some, None, Option, sym, refl, ap, ◌∙◌, arith}
 use Rattle.std.proofs.lemmas.Bool.{and_parts, eqb-true, eqb-false, ne_eqb, not-true}
 use Rattle.geometry.specs.declared.corners.Corners.{Corners}
 use Rattle.geometry.specs.declared.direction.Direction.{Direction}
@@ -11,7 +11,7 @@ use Rattle.geometry.specs.Places.{spot, point_of}
 use Rattle.geometry.proofs.Bounds.{gap_parts}
 use Rattle.geometry.proofs.Points.{IsPoint, cond_some, point_at_spot, spot_of_place}
 use Rattle.breaks.specs.Sources.{gap_from}
-use Rattle.lifting.specs.Passes.{Breaks, Pass, has_parity, across, end_before, end_after, on_point, from_point, pass}
+use Rattle.lifting.specs.Passes.{Breaks, has_parity, across, end_before, end_after, on_point, from_point, pass}
 use Rattle.lifting.proofs.Lifts.{Apart, Within}
 
 pub along_previous : (d : Direction) (p : Point) → along d (previous d p) ≡ along d p - 1

@@ -1,16 +1,16 @@
 -- The rows of a resolution's lattice as parts of a sub-pass. Assumes nothing.
-use Rattle.std.proofs.Common.{◌≡◌, ℕ, ◌+◌, ◌-◌, ◌*◌, ◌/◌, ◌%◌, ◌<◌, ◌≤◌, Bool, true, false, cond, ◌&&◌, ◌||◌, eqb, ltb, leb, ◌⊎◌, List, length, Some, None, Option, sym, refl, ap, ◌∙◌, subst, ap₂, inl, inr, mul_assoc, mul_comm, add-mul, one-mul, arith}
-use Rattle.std.proofs.lemmas.Bool.{cases_Bool, cases_lt, cond-true, cond-false, lt-ltb, le-ltb, le-leb, eqb-true, eq-eqb, ne_eqb}
+use Rattle.std.proofs.Common.{◌≡◌, ℕ, ◌+◌, ◌-◌, ◌*◌, ◌%◌, ◌<◌, ◌≤◌, Bool, true, false, cond, ◌&&◌, ◌||◌, eqb, ltb, List, sym, refl, ap, ◌∙◌, subst, ap₂, mul_assoc, mul_comm, add-mul, one-mul, arith}
+use Rattle.std.proofs.lemmas.Bool.{cond-true, lt-ltb, le-ltb, eqb-true, eq-eqb, ne_eqb}
 use Rattle.geometry.specs.declared.corners.Corners.{Corners}
 use Rattle.geometry.specs.declared.direction.Direction.{Direction}
 use Rattle.geometry.specs.declared.direction.Direction.TheVariants.{Row, Column}
 use Rattle.geometry.specs.declared.lattice.Lattice.{Lattice}
 use Rattle.geometry.specs.declared.point.Point.{Point}
-use Rattle.geometry.specs.Frames.{along, next, previous, low, high, apart, width, is_point, is_gap}
-use Rattle.geometry.specs.Places.{spot, corner, point_of, plane_length, lattice_of}
+use Rattle.geometry.specs.Frames.{along, next, previous, low, high}
+use Rattle.geometry.specs.Places.{spot, point_of, lattice_of}
 use Rattle.geometry.proofs.Bounds.{gap_parts}
 use Rattle.geometry.proofs.Lattices.{lattice_is, steps_of}
-use Rattle.geometry.proofs.Points.{IsPoint, point_parts, point_from, spot_of_place}
+use Rattle.geometry.proofs.Points.{IsPoint, point_from, spot_of_place}
 use Rattle.breaks.specs.declared.run.Run.{Run}
 use Rattle.breaks.specs.Sources.{gap_from, point_in}
 use Rattle.lifting.specs.Meanings.{Meaning}

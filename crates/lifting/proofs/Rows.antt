@@ -1,7 +1,7 @@
 -- How far the rows of a sub-pass bring it, and that they stay in the plane. Assumes nothing.
-use Rattle.std.proofs.Common.{◌≡◌, ℕ, ◌+◌, ◌-◌, ◌*◌, ◌/◌, ◌%◌, ◌<◌, ◌≤◌, Bool, true, false, cond, eqb, ltb, ◌⊎◌, List, length, take, sym, refl, ap, ◌∙◌, subst, ap₂, inl, inr, mul_assoc, mul_comm, add-mul, one-mul, le-mul_of_pos_right, arith}
+use Rattle.std.proofs.Common.{◌≡◌, ℕ, ◌+◌, ◌-◌, ◌*◌, ◌/◌, ◌<◌, ◌≤◌, Bool, true, false, cond, ltb, ◌⊎◌, List, length, take, sym, refl, ap, ◌∙◌, subst, inl, inr, mul_assoc, mul_comm, add-mul, one-mul, le-mul_of_pos_right, arith}
 use Rattle.std.proofs.lemmas.List.{length-take-le}
-use Rattle.std.proofs.lemmas.Bool.{cases_Bool, cases_lt, cases_order, cond-true, cond-false, lt-ltb, le-ltb, true≢false}
+use Rattle.std.proofs.lemmas.Bool.{cases_lt, cases_order, cond-true, cond-false, lt-ltb, le-ltb, true≢false}
 use Rattle.geometry.specs.declared.direction.Direction.{Direction}
 use Rattle.geometry.specs.declared.direction.Direction.TheVariants.{Row, Column}
 use Rattle.geometry.specs.declared.lattice.Lattice.{Lattice}
@@ -16,7 +16,7 @@ use Rattle.geometry.specs.Places.{point_of}
 use Rattle.geometry.proofs.Points.{spot_of_place}
 use Rattle.lifting.proofs.Lifts.{come_none, come_all}
 use Rattle.lifting.proofs.Ends.{on_some}
-use Rattle.lifting.proofs.Parts.{column_part, row_part, come_jump, earlier_row, earlier_on, earlier_never, InLattice, in_lattice}
+use Rattle.lifting.proofs.Parts.{column_part, row_part, come_jump, earlier_row, earlier_on, earlier_never, in_lattice}
 
 -- the first n of a list
 pub front_length : {X : Type 0} (xs : List X) (n : ℕ) → n ≤ length xs → length (take (n - 0) xs) ≡ n

@@ -1,22 +1,21 @@
 -- Points changed one after another come to what the pass makes of them. Assumes nothing.
-use Rattle.std.proofs.Common.{◌≡◌, ℕ, zero, suc, ◌+◌, ◌-◌, ◌*◌, ◌<◌, ◌≤◌, Bool, true, false, cond, not, ◌&&◌, ◌||◌, eqb, ltb, ◌⊎◌, List, length, get_or, Some, None, Option, sym, refl, ap, ◌∙◌, subst, ap₂, inl, inr, add-mul, one-mul, zero-mul, add-one, arith}
-use Rattle.std.proofs.lemmas.Bool.{cases_Bool, cases_lt, cases_eq, true≢false, false≢true, lt-ltb, le-ltb, eq-eqb, ne_eqb, eqb-true, eqb-false}
+use Rattle.std.proofs.Common.{◌≡◌, ℕ, zero, suc, ◌+◌, ◌-◌, ◌*◌, ◌<◌, ◌≤◌, Bool, true, false, cond, not, ◌&&◌, ◌||◌, eqb, ltb, List, length, get_or, Some, None, Option, sym, refl, ap, ◌∙◌, subst, ap₂, inl, inr, add-mul, one-mul, zero-mul, add-one, arith}
+use Rattle.std.proofs.lemmas.Bool.{cases_Bool, cases_lt, cases_eq, true≢false, lt-ltb, le-ltb, eq-eqb, ne_eqb, eqb-false}
 use Rattle.geometry.specs.declared.corners.Corners.{Corners}
 use Rattle.geometry.specs.declared.direction.Direction.{Direction}
 use Rattle.geometry.specs.declared.gap.Gap.{Gap}
 use Rattle.geometry.specs.declared.point.Point.{Point}
-use Rattle.geometry.specs.Frames.{along, next, previous, is_point, is_gap}
+use Rattle.geometry.specs.Frames.{along, next, previous, is_gap}
 use Rattle.geometry.specs.Places.{spot, point_of, plane_length}
 use Rattle.geometry.proofs.Points.{point_parts, point_at_spot, spot_below, spot_of_place}
 use Rattle.breaks.specs.declared.flags.Flags.{Flags}
 use Rattle.breaks.specs.declared.run.Run.{Run}
-use Rattle.breaks.specs.declared.wholeness.Wholeness.{Wholeness}
-use Rattle.breaks.specs.Sources.{is_broken, gap_from, point_in, before_broken, after_broken, FlagsOf, Flagged}
+use Rattle.breaks.specs.Sources.{is_broken, gap_from, point_in, before_broken, FlagsOf, Flagged}
 use Rattle.lifting.specs.Meanings.{Meaning}
-use Rattle.lifting.specs.Passes.{Breaks, Pass, end_at, has_parity, across, end_before, end_after, on_point, from_point, pass}
+use Rattle.lifting.specs.Passes.{Breaks, end_at, has_parity, across, end_before, end_after, on_point, from_point, pass}
 use Rattle.lifting.specs.Stages.{op, amount}
-use Rattle.lifting.specs.Runs.{run_of, put_at, no_flags, end_of, earlier, Come, ComeTo, Outside, PartOf}
-use Rattle.lifting.proofs.Lifts.{come_one, come_same}
+use Rattle.lifting.specs.Runs.{run_of, put_at, no_flags, earlier, ComeTo, Outside, PartOf}
+use Rattle.lifting.proofs.Lifts.{come_one}
 use Rattle.lifting.proofs.Ends.{pass_apart, on_some}
 
 pub run_more : {K : Type 0} (z : K) (op : K → K → K) (amount : Option K → Option K → K) (flags : List Flags) (here back forth stride n : ℕ) (xs : List K) →

@@ -1,21 +1,20 @@
 -- Stages undo one another, keep planes planes, and do not cross a closed border. Assumes nothing.
-use Rattle.std.proofs.Common.{◌≡◌, ℕ, zero, suc, ◌+◌, ◌-◌, ◌<◌, ◌≤◌, Bool, true, false, cond, not, ◌≢◌, ◌⊎◌, List, length, get_or, Some, None, Option, sym, refl, ap, ◌∙◌, subst, ap₂, inl, inr, arith}
+use Rattle.std.proofs.Common.{◌≡◌, ℕ, zero, suc, ◌-◌, ◌<◌, ◌≤◌, Bool, true, false, cond, not, ◌≢◌, ◌⊎◌, List, length, get_or, None, sym, refl, ap, ◌∙◌, subst, inl, inr, arith}
 use Rattle.std.proofs.lemmas.Bool.{true≢false, false≢true}
 use Rattle.geometry.specs.declared.corners.Corners.{Corners}
 use Rattle.geometry.specs.declared.direction.Direction.{Direction}
 use Rattle.geometry.specs.declared.direction.Direction.TheVariants.{Row, Column}
 use Rattle.geometry.specs.declared.point.Point.{Point}
-use Rattle.geometry.specs.Frames.{next, is_gap}
-use Rattle.geometry.specs.Places.{inside, place, point_at, finest, spot, plane_length, point_of}
+use Rattle.geometry.specs.Frames.{next}
+use Rattle.geometry.specs.Places.{place, point_at, finest, spot, point_of}
 use Rattle.geometry.proofs.Bounds.{gap_parts}
 use Rattle.geometry.proofs.Points.{IsPoint, places, inside_from, finest_inside}
 use Rattle.breaks.specs.Sources.{gap_from}
-use Rattle.samples.specs.Steps.{EndHeld}
 use Rattle.lifting.specs.Meanings.{Meaning, Lawful}
-use Rattle.lifting.specs.Passes.{Breaks, Pass, lifted, on_point, pass}
+use Rattle.lifting.specs.Passes.{Breaks, on_point, pass}
 use Rattle.lifting.specs.Stages.{Plane, op, amount, sub_pass, lines_down, lines_up, stage_down, stage_up, stages_down, transform}
 use Rattle.lifting.specs.Borders.{Sides, Closed, AgreeOn}
-use Rattle.lifting.specs.Laws.{UpUndoesDown, DownUndoesUp, PlanesStayPlanes, EveryPlaneHasOnePicture, SidesStayApart, OnlyItsPoints, StageLaws}
+use Rattle.lifting.specs.Laws.{UpUndoesDown, DownUndoesUp, EveryPlaneHasOnePicture, SidesStayApart, OnlyItsPoints, StageLaws}
 use Rattle.lifting.proofs.Lifts.{length_lifted, lifted_local, lifted_held, lifted_undone, at_other, KeepsHeld}
 use Rattle.lifting.proofs.Ends.{pass_apart, pass_within, Spreads, on_some}
 

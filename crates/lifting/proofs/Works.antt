@@ -1,11 +1,10 @@
 -- The sub-passes of a stage in turn, and the lattice that they walk. Assumes nothing.
-use Rattle.std.proofs.Common.{◌≡◌, ℕ, ◌+◌, ◌-◌, ◌*◌, ◌^◌, ◌<◌, ◌≤◌, Bool, true, false, cond, not, ◌&&◌, eqb, leb, ◌⊎◌, List, length, get_or, sym, refl, ap, ◌∙◌, subst, ap₂, inl, inr, mul-le-mul, arith, pow_mono}
-use Rattle.std.proofs.lemmas.Bool.{cond-true, le-leb, leb-true, and_parts, eqb-true}
+use Rattle.std.proofs.Common.{◌≡◌, ℕ, ◌+◌, ◌-◌, ◌*◌, ◌≤◌, Bool, true, false, cond, not, ◌&&◌, eqb, leb, List, length, get_or, sym, refl, ap, ◌∙◌, subst, mul-le-mul, arith, pow_mono}
+use Rattle.std.proofs.lemmas.Bool.{leb-true, and_parts, eqb-true}
 use Rattle.geometry.specs.declared.corners.Corners.{Corners}
 use Rattle.geometry.specs.declared.direction.Direction.{Direction}
 use Rattle.geometry.specs.declared.direction.Direction.TheVariants.{Row, Column}
 use Rattle.geometry.specs.declared.frame.Frame.{Frame}
-use Rattle.geometry.specs.declared.gap.Gap.{Gap}
 use Rattle.geometry.specs.declared.lattice.Lattice.{Lattice}
 use Rattle.geometry.specs.declared.point.Point.{Point}
 use Rattle.geometry.specs.Frames.{corners_of, apart, width, low, high, same_frame, is_gap}

@@ -1,5 +1,5 @@
 -- Borders that no unbroken gap crosses. Assumes nothing.
-use Rattle.std.specs.Prelude.{◌≡◌, ℕ, Bool, true, ◌≢◌, List, slice_index_or}
+use Rattle.std.specs.Prelude.{◌≡◌, Bool, true, ◌≢◌, List, slice_index_or}
 use Rattle.geometry.specs.declared.corners.Corners.{Corners}
 use Rattle.geometry.specs.declared.gap.Gap.{Gap}
 use Rattle.geometry.specs.declared.point.Point.{Point}

@@ -1,14 +1,14 @@
 -- One stage down and up, the transform to a stage, and the laws of both. Assumes nothing.
-use Rattle.std.specs.Prelude.{◌≡◌, ℕ, zero, suc, ◌-◌, ◌≤◌, Bool, true, false, cond, not, ◌&&◌, List, [], ◌∷◌, length, Option, ◌==◌, nat_le, slice_index_or}
+use Rattle.std.specs.Prelude.{◌≡◌, ℕ, zero, suc, ◌-◌, Bool, true, false, cond, not, ◌&&◌, List, [], ◌∷◌, length, Option, ◌==◌, nat_le, slice_index_or}
 use Rattle.geometry.specs.declared.corners.Corners.{Corners}
 use Rattle.geometry.specs.declared.direction.Direction.{Direction}
 use Rattle.geometry.specs.declared.direction.Direction.TheVariants.{Row, Column}
 use Rattle.geometry.specs.declared.refusal.Refusal.TheVariants.{WrongLength, WrongStage, OtherFrame}
 use Rattle.geometry.specs.Frames.{same_frame}
-use Rattle.geometry.specs.Places.{plane_length, point_of}
+use Rattle.geometry.specs.Places.{plane_length}
 use Rattle.geometry.specs.Refusals.{Answer, unless, accepted, refused}
 use Rattle.lifting.specs.Meanings.{Meaning}
-use Rattle.lifting.specs.Passes.{Breaks, Pass, lifted, pass}
+use Rattle.lifting.specs.Passes.{Breaks, lifted, pass}
 
 module _ {K : Type 0} (m : Meaning K) where
   -- joining or taking, and the forecast or the correction

@@ -1,10 +1,10 @@
 -- The windows of a picture cover it. Assumes nothing.
-use Rattle.std.proofs.Common.{◌≡◌, ℕ, ◌+◌, ◌-◌, ◌*◌, ◌/◌, ◌%◌, ◌<◌, ◌≤◌, min, Bool, true, false, cond, not, ◌&&◌, eqb, ltb, leb, ◌⊎◌, sym, refl, ap, ◌∙◌, inl, inr, ⊎_elim, add-mul, arith}
+use Rattle.std.proofs.Common.{◌≡◌, ℕ, ◌+◌, ◌-◌, ◌*◌, ◌/◌, ◌%◌, ◌<◌, ◌≤◌, min, Bool, true, false, not, ◌&&◌, eqb, ltb, leb, sym, ap, ◌∙◌, ⊎_elim, add-mul, arith}
 use Rattle.std.proofs.lemmas.Nat.{mul-le, div-add-mod', mod_below, div-mul-add}
 use Rattle.std.proofs.lemmas.Bool.{cond-true, cond-false, eq-eqb, ne_eqb, lt-ltb, le-leb, and_from, cases_eq, cases_lt}
-use Rattle.netpbm.specs.Answers.{Answer, accepted, refused, refuse_if}
+use Rattle.netpbm.specs.Answers.{accepted, refuse_if}
 use Rattle.netpbm.specs.Faults.{no_window}
-use Rattle.netpbm.specs.Windows.{across, window_answer, inside, Contains, ExactlyOne, Covered}
+use Rattle.netpbm.specs.Windows.{across, window_answer, Covered}
 use Rattle.netpbm.specs.declared.window.Window.{Window}
 
 across_none : (n s : ℕ) → s ≡ 0 → across n s ≡ 0

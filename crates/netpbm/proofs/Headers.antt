@@ -1,6 +1,6 @@
 -- A header that was read. Assumes nothing.
-use Rattle.std.proofs.Common.{◌≡◌, ℕ, zero, suc, ◌+◌, ◌-◌, ◌*◌, ◌^◌, ◌<◌, ◌≤◌, min, Bool, true, false, cond, not, ◌&&◌, ◌||◌, eqb, ltb, ◌⊎◌, List, [], ◌∷◌, length, sym, refl, ap, ◌∙◌, inl, inr, ⊎_elim, arith}
-use Rattle.std.proofs.lemmas.Bool.{cond-true, cond-false, cond_both, eqb-true, eqb-false, eq-eqb, ne_eqb, ltb-false, lt-ltb, le-ltb, or_parts, cases_lt, cases_eq}
+use Rattle.std.proofs.Common.{◌≡◌, ℕ, suc, ◌+◌, ◌<◌, ◌≤◌, Bool, true, false, cond, not, ◌||◌, eqb, ltb, List, [], ◌∷◌, length, sym, refl, ap, ◌∙◌, ⊎_elim, arith}
+use Rattle.std.proofs.lemmas.Bool.{cond_both, eqb-false, eq-eqb, ne_eqb, ltb-false, lt-ltb, le-ltb, or_parts, cases_lt, cases_eq}
 use Rattle.netpbm.specs.Faults.{zero_size, bad_maxval}
 use Rattle.netpbm.specs.Reads.{Read, got, fault, and_then, stop_if, white, opens, line_end, digit, byte, magic, skipped, gap, after_digits, value_on, digits, numeral, one_white}
 use Rattle.netpbm.specs.Parses.{header_by}

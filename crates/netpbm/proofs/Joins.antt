@@ -3,10 +3,10 @@ use Rattle.std.proofs.Common.{◌≡◌, ℕ, ◌+◌, ◌-◌, ◌*◌, ◌/◌
 use Rattle.std.proofs.lemmas.Nat.{div-add-mod', mod_below, div_below, div-mul-add, mod-mul-add}
 use Rattle.std.proofs.lemmas.List.{ext_get_or}
 use Rattle.std.proofs.lemmas.Bool.{cond-false, ne_eqb, ltb-true, le-ltb, le-leb, and_parts, and_from, cases_lt}
-use Rattle.netpbm.specs.Answers.{Answer, accepted, refused, refuse_if}
+use Rattle.netpbm.specs.Answers.{Answer, accepted, refuse_if}
 use Rattle.netpbm.specs.Faults.{no_window}
-use Rattle.netpbm.specs.Windows.{across, window_answer, inside, Contains, place, PartRows, RowsPut, rows_in, put_answer, AfterPut}
-use Rattle.netpbm.specs.Joins.{Put, PutDone, Joining, OwnWindow, AllOwn, SomeInto, OwnWindowsAreTaken, JoinedWindowsAreTheRaster}
+use Rattle.netpbm.specs.Windows.{across, inside, Contains, place, PartRows, RowsPut, rows_in, AfterPut}
+use Rattle.netpbm.specs.Joins.{Put, PutDone, Joining, AllOwn, SomeInto, OwnWindowsAreTaken, JoinedWindowsAreTheRaster}
 use Rattle.netpbm.specs.declared.window.Window.{Window}
 use Rattle.netpbm.proofs.Covers.{starts_within, made_of, window_of, covered}
 use Rattle.netpbm.proofs.Cuts.{inside_parts}

@@ -1,15 +1,15 @@
 -- The samples after a header, with numbers that were capped. Assumes nothing.
-use Rattle.std.proofs.Common.{◌≡◌, ℕ, zero, suc, ◌+◌, ◌-◌, ◌*◌, ◌^◌, ◌<◌, ◌≤◌, min, Bool, true, false, cond, not, ◌||◌, eqb, ltb, ◌⊎◌, List, [], ◌∷◌, length, sym, refl, ap, ◌∙◌, subst, inl, inr, ⊎_elim, mul_comm, mul-one, arith}
+use Rattle.std.proofs.Common.{◌≡◌, ℕ, ◌-◌, ◌*◌, ◌^◌, ◌<◌, ◌≤◌, Bool, true, false, not, ◌||◌, eqb, ltb, List, [], ◌∷◌, length, sym, refl, ap, ◌∙◌, subst, ⊎_elim, mul_comm, mul-one, arith}
 use Rattle.std.proofs.lemmas.Nat.{mul-le}
 use Rattle.std.proofs.lemmas.Bool.{cond-true, cond-false, cond_both, ne_eqb, lt-ltb, le-ltb, or_from, cases_lt, cases_Bool}
-use Rattle.netpbm.specs.Answers.{Answer, accepted, refused, refuse_if}
-use Rattle.netpbm.specs.Faults.{cut_short, zero_size, bad_maxval, above_maxval, left_over}
+use Rattle.netpbm.specs.Answers.{accepted, refused, refuse_if}
+use Rattle.netpbm.specs.Faults.{cut_short, above_maxval, left_over}
 use Rattle.netpbm.specs.Pictures.{Picture, within, raster_answer}
-use Rattle.netpbm.specs.Reads.{Read, got, fault, numeral}
+use Rattle.netpbm.specs.Reads.{got, fault}
 use Rattle.netpbm.specs.Parses.{header_by, sample_size, pairs, values, plate, plate_after, parsed, WantsMemory}
 use Rattle.netpbm.specs.Seen.{capped, capped_numeral}
 use Rattle.netpbm.specs.declared.header.Header.{Header}
-use Rattle.netpbm.proofs.Headers.{Sound, header_sound, Uncapped, uncapped, capped_of, header_fault}
+use Rattle.netpbm.proofs.Headers.{Sound, header_sound, Uncapped, uncapped, header_fault}
 
 cap_small : (a : ℕ) → a ≤ 2 ^ 64 - 1 → capped a ≡ a
 cap_small a h = omega arith

@@ -1,16 +1,15 @@
 -- What is written is read back: one lemma for each item. Assumes nothing.
-use Rattle.std.proofs.Common.{◌≡◌, ℕ, zero, suc, ◌+◌, ◌-◌, ◌*◌, ◌/◌, ◌%◌, ◌^◌, ◌<◌, ◌≤◌, Bool, true, false, cond, not, ◌&&◌, ◌||◌, eqb, ltb, leb, ◌⊎◌, List, [], ◌∷◌, ◌++◌, length, decimal, sym, refl, ap, ◌∙◌, inl, inr, ⊎_elim, append_assoc, mul-one, arith, rules}
+use Rattle.std.proofs.Common.{◌≡◌, ℕ, ◌+◌, ◌-◌, ◌*◌, ◌^◌, ◌<◌, ◌≤◌, Bool, true, false, not, ◌&&◌, eqb, ltb, leb, List, [], ◌∷◌, ◌++◌, length, decimal, sym, refl, ap, ◌∙◌, ⊎_elim, append_assoc, mul-one, arith, rules}
 use Rattle.std.specs.List.{flat_map}
 use Rattle.std.proofs.lemmas.Nat.{div-add-mod'}
 use Rattle.std.proofs.lemmas.Fmt.{digits_decimal, digits_value-decimal, decimal_nonempty}
 use Rattle.std.proofs.lemmas.Str.Parse.{IsNumeralModel, numerals_by_fold}
 use Rattle.std.proofs.lemmas.Bool.{cond-true, cond-false, ne_eqb, lt-leb, le-ltb, leb-true, and_parts, and_right, or_from, cases_Bool}
-use Rattle.netpbm.specs.Answers.{Answer, accepted, refused}
+use Rattle.netpbm.specs.Answers.{accepted}
 use Rattle.netpbm.specs.Pictures.{Picture, within}
-use Rattle.netpbm.specs.Reads.{Read, got, fault, and_then, white, opens, digit, byte, magic, skipped, gap, value_on, after_digits, digits, numeral, one_white}
+use Rattle.netpbm.specs.Reads.{got, and_then, white, opens, digit, byte, magic, gap, value_on, after_digits, digits, numeral, one_white}
 use Rattle.netpbm.specs.Parses.{header_by, sample_size, pairs, values, plate, plate_after, parsed}
-use Rattle.netpbm.specs.Writes.{pair_bytes, sample_bytes, header_bytes, written}
-use Rattle.netpbm.specs.declared.header.Header.{Header}
+use Rattle.netpbm.specs.Writes.{pair_bytes, sample_bytes, written}
 
 -- numbers
 abbrev every_digit : List ℕ → Bool

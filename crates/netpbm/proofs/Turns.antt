@@ -1,9 +1,9 @@
 -- The items of a header, one step of each. Assumes nothing.
-use Rattle.std.proofs.Common.{◌≡◌, ℕ, zero, suc, ◌+◌, ◌-◌, ◌*◌, ◌^◌, ◌<◌, ◌≤◌, min, Bool, true, false, cond, not, ◌&&◌, ◌||◌, eqb, leb, List, [], ◌∷◌, length, get_or, take, drop, sym, refl, ap, ◌∙◌, arith}
+use Rattle.std.proofs.Common.{◌≡◌, ℕ, ◌+◌, ◌-◌, ◌*◌, ◌≤◌, Bool, true, false, cond, not, eqb, List, [], ◌∷◌, length, get_or, take, drop, sym, refl, ap, ◌∙◌, arith}
 use Rattle.std.proofs.lemmas.List.{take_rest}
-use Rattle.std.proofs.lemmas.Bool.{ne_eqb, eq-eqb, cases_lt, cond-true, cond-false}
+use Rattle.std.proofs.lemmas.Bool.{ne_eqb, eq-eqb, cond-true, cond-false}
 use Rattle.netpbm.specs.Faults.{not_pgm, cut_short, no_number}
-use Rattle.netpbm.specs.Reads.{Read, got, fault, and_then, stop_if, white, opens, line_end, digit, byte, magic, skipped, gap, value_on, after_digits, digits, one_white}
+use Rattle.netpbm.specs.Reads.{got, fault, white, opens, line_end, digit, byte, skipped, gap, value_on, after_digits, digits, one_white}
 use Rattle.netpbm.specs.Seen.{capped, capped_read}
 
 -- what a pattern `[.., rest @ ..]` names after k elements

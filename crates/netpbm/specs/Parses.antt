@@ -1,5 +1,5 @@
 -- A whole PGM file. Assumes nothing.
-use Rattle.std.specs.Prelude.{◌≡◌, ℕ, ◌+◌, ◌*◌, Bool, true, false, cond, not, ◌||◌, ◌⊎◌, List, [], ◌∷◌, length, ◌==◌, nat_lt}
+use Rattle.std.specs.Prelude.{◌≡◌, ℕ, ◌+◌, ◌*◌, cond, not, ◌||◌, ◌⊎◌, List, [], ◌∷◌, length, ◌==◌, nat_lt}
 use Rattle.netpbm.specs.Answers.{Answer, accepted, refused, refuse_if}
 use Rattle.netpbm.specs.Faults.{cut_short, zero_size, bad_maxval, above_maxval, left_over, no_memory}
 use Rattle.netpbm.specs.Pictures.{Picture, within}

@@ -1,6 +1,6 @@
 -- A picture: its sizes, its maxval and its samples row by row. Assumes nothing.
-use Rattle.std.specs.Prelude.{ℕ, ◌*◌, Bool, true, false, cond, not, ◌&&◌, ◌||◌, List, [], ◌∷◌, length, ◌==◌, nat_le, nat_lt}
-use Rattle.netpbm.specs.Answers.{Answer, accepted, refused, refuse_if}
+use Rattle.std.specs.Prelude.{ℕ, ◌*◌, Bool, true, not, ◌&&◌, ◌||◌, List, [], ◌∷◌, length, ◌==◌, nat_le, nat_lt}
+use Rattle.netpbm.specs.Answers.{Answer, accepted, refuse_if}
 use Rattle.netpbm.specs.Faults.{cut_short, zero_size, bad_maxval, above_maxval, left_over}
 
 pub record Picture : Type 0 where

@@ -1,5 +1,5 @@
 -- What a raster holds, and the answer of a call that makes one. Assumes nothing.
-use Rattle.std.specs.Prelude.{ℕ, Ok, Err, vec_items, Result}
+use Rattle.std.specs.Prelude.{Ok, Err, vec_items, Result}
 use Rattle.netpbm.specs.Answers.{Answer, accepted, refused}
 use Rattle.netpbm.specs.Faults.{fault_number}
 use Rattle.netpbm.specs.Pictures.{Picture}

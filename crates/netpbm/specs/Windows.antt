@@ -1,5 +1,5 @@
 -- Windows of a picture whose samples stand row by row. Assumes nothing.
-use Rattle.std.specs.Prelude.{◌≡◌, ℕ, ◌+◌, ◌-◌, ◌*◌, ◌/◌, ◌%◌, ◌<◌, ◌≤◌, min, Bool, true, false, cond, not, ◌&&◌, List, length, Some, None, Ok, Err, vec_items, Option, Result, Vec, ◌==◌, ◌≢◌, nat_le, nat_lt, slice_index}
+use Rattle.std.specs.Prelude.{◌≡◌, ℕ, ◌+◌, ◌-◌, ◌*◌, ◌/◌, ◌%◌, ◌<◌, ◌≤◌, min, Bool, true, cond, not, ◌&&◌, List, length, Some, None, Ok, Err, vec_items, Option, Result, Vec, ◌==◌, ◌≢◌, nat_le, nat_lt, slice_index}
 use Rattle.std.specs.declared.alloc.Global.{Global}
 use Rattle.netpbm.specs.Answers.{Answer, accepted, refused, refuse_if}
 use Rattle.netpbm.specs.Faults.{fault_number, cut_short, left_over, no_memory, no_window}

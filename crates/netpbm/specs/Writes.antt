@@ -1,5 +1,5 @@
 -- The bytes of a picture. Assumes nothing.
-use Rattle.std.specs.Prelude.{◌≡◌, ℕ, ◌/◌, ◌%◌, cond, List, [], ◌∷◌, ◌++◌, decimal, nat_lt}
+use Rattle.std.specs.Prelude.{ℕ, ◌/◌, ◌%◌, cond, List, [], ◌∷◌, ◌++◌, decimal, nat_lt}
 use Rattle.std.specs.List.{flat_map}
 use Rattle.netpbm.specs.Pictures.{Picture}
 

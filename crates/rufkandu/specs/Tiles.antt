@@ -1,5 +1,5 @@
 -- The frame of a tile and what came back of it. Assumes nothing.
-use Rattle.std.specs.Prelude.{ℕ, ◌+◌, Bool, true, false, not, ◌&&◌, List, length, ℤ, pos, negsuc, ◌==◌, nat_lt, slice_index, slice_index_or}
+use Rattle.std.specs.Prelude.{ℕ, ◌+◌, Bool, false, not, ◌&&◌, List, length, ℤ, pos, negsuc, ◌==◌, nat_lt, slice_index, slice_index_or}
 use Rattle.geometry.specs.declared.corners.Corners.{Corners}
 use Rattle.geometry.specs.declared.point.Point.{Point}
 use Rattle.netpbm.specs.declared.window.Window.{Window}

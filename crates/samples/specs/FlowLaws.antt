@@ -3,7 +3,7 @@ use Rattle.std.specs.Prelude.{◌≡◌, ℕ, Bool, true, false, ◌&&◌, ℤ, 
 use Rattle.std.proofs.Common.{arith}
 use Rattle.samples.specs.declared.flow.Flow.{Flow}
 use Rattle.samples.specs.Kinds.{KindLaws, DeltaLaws}
-use Rattle.samples.specs.Numbers.{fits32, numbers}
+use Rattle.samples.specs.Numbers.{fits32}
 use Rattle.samples.specs.Flows.{flows}
 use Rattle.samples.specs.NumberLaws.{number_lawful, number_additive}
 

@@ -1,5 +1,5 @@
 -- The flow: two numbers, each joined and taken by itself. Assumes nothing.
-use Rattle.std.specs.Prelude.{Bool, ◌&&◌, pos}
+use Rattle.std.specs.Prelude.{◌&&◌}
 use Rattle.samples.specs.declared.flow.Flow.{Flow}
 use Rattle.samples.specs.Kinds.{Kind}
 use Rattle.samples.specs.Numbers.{numbers}

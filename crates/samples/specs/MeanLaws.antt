@@ -1,8 +1,7 @@
 -- The laws of the mean step, of numbers and of flows. Assumes nothing.
-use Rattle.std.specs.Prelude.{◌≡◌, ℕ, ◌+◌, ◌/◌, ◌<◌, true, ℤ, pos, negsuc, ◌+ℤ◌, Some, None, Option, FitsSigned, refl}
+use Rattle.std.specs.Prelude.{◌≡◌, true, ℤ, pos, negsuc, ◌+ℤ◌, Some, None, Option, FitsSigned, refl}
 use Rattle.std.proofs.Common.{arith}
-use Rattle.std.specs.Int.Signed.{mag}
-use Rattle.std.specs.Int.{int_div_euclid, w32}
+use Rattle.std.specs.Int.{w32}
 use Rattle.std.specs.Option.{option_map}
 use Rattle.std.proofs.lemmas.Int.{ints}
 use Rattle.samples.specs.declared.flow.Flow.{Flow}

@@ -1,5 +1,5 @@
 -- What a call comes to, as a verdict, what it tells and what an acceptance leaves. Assumes nothing.
-use Rattle.std.proofs.Common.{◌≡◌, ℕ, ◌+◌, ◌-◌, Bool, true, false, cond, not, eqb, List, length, get_or, set, Some, None, Option, sym, refl, ap, ◌∙◌}
+use Rattle.std.proofs.Common.{◌≡◌, ◌+◌, ◌-◌, Bool, true, false, cond, not, eqb, List, length, get_or, set, Some, None, Option, refl, ap, ◌∙◌}
 use Rattle.geometry.specs.declared.corners.Corners.{Corners}
 use Rattle.geometry.specs.declared.point.Point.{Point}
 use Rattle.geometry.specs.Frames.{same_frame}

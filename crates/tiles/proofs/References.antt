@@ -1,10 +1,9 @@
 -- A tile's runs are the reference tile's. Assumes nothing.
-use Rattle.std.proofs.Common.{◌≡◌, ℕ, zero, suc, ◌+◌, ◌-◌, ◌<◌, ◌≤◌, Bool, true, false, cond, not, eqb, List, [], ◌∷◌, map, length, get_or, take, set, Some, None, Option, sym, refl, ap, ◌∙◌, subst, ap₂, subst₂, arith, length-set}
-use Rattle.std.proofs.lemmas.Bool.{eqb-true, eqb-false, eq-eqb, false≢true, true≢false}
+use Rattle.std.proofs.Common.{◌≡◌, ℕ, zero, suc, ◌+◌, ◌-◌, ◌<◌, ◌≤◌, Bool, true, false, cond, not, eqb, List, [], ◌∷◌, length, get_or, take, set, None, Option, sym, refl, ap, ◌∙◌, subst, ap₂, subst₂, arith, length-set}
+use Rattle.std.proofs.lemmas.Bool.{eqb-true, eqb-false, eq-eqb, true≢false}
 use Rattle.geometry.specs.declared.corners.Corners.{Corners}
-use Rattle.geometry.specs.declared.point.Point.{Point}
 use Rattle.geometry.specs.Frames.{same_frame}
-use Rattle.geometry.specs.Places.{inside, place, plane_length}
+use Rattle.geometry.specs.Places.{place, plane_length}
 use Rattle.geometry.specs.Refusals.{Answer, accepted, refused}
 use Rattle.lifting.specs.Meanings.{Meaning, Lawful}
 use Rattle.lifting.specs.Passes.{Breaks}
@@ -14,7 +13,7 @@ use Rattle.tiles.specs.declared.call.Call.{Call}
 use Rattle.tiles.specs.declared.call.Call.TheVariants.{Put, Read, Begin, Down, Up, Finish}
 use Rattle.tiles.specs.declared.state.State.{State}
 use Rattle.tiles.specs.declared.state.State.TheVariants.{Picture, Bands}
-use Rattle.tiles.specs.Law.{Mirrors, RunsAreTheReferences}
+use Rattle.tiles.specs.Law.{RunsAreTheReferences}
 use Rattle.tiles.specs.Reference.{Reference, OpenedWith, reference, shown, answers, moved, next, moment, later, history}
 use Rattle.tiles.specs.Runs.{Run, HeldCall, HeldCalls, last_seen, with_put, overwritten}
 use Rattle.tiles.specs.Tiles.{Seen, Moment, either, opened, Called}

@@ -1,12 +1,12 @@
 -- A list of calls that is played grows by a call. Assumes nothing.
-use Rattle.std.proofs.Common.{◌≡◌, ℕ, zero, suc, ◌+◌, ◌<◌, ◌≤◌, Bool, true, false, cond, not, eqb, List, [], ◌∷◌, ◌++◌, map, length, get_or, take, Err, Result, Vec, sym, refl, ap, ◌∙◌, subst, ap₂, arith, length-append}
+use Rattle.std.proofs.Common.{◌≡◌, ℕ, ◌+◌, ◌<◌, ◌≤◌, Bool, true, false, cond, not, eqb, List, [], ◌∷◌, ◌++◌, map, length, get_or, take, Err, Result, Vec, sym, refl, ap, ◌∙◌, subst, ap₂, arith, length-append}
 use Rattle.std.proofs.lemmas.List.{take_more, get_or_default}
 use Rattle.std.proofs.lemmas.Bool.{eqb-true}
 use Rattle.std.specs.declared.alloc.Global.{Global}
 use Rattle.geometry.specs.declared.corners.Corners.{Corners}
 use Rattle.geometry.specs.declared.refusal.Refusal.{Refusal}
 use Rattle.geometry.specs.Places.{plane_length}
-use Rattle.geometry.specs.Refusals.{Answer, accepted, refused, number}
+use Rattle.geometry.specs.Refusals.{accepted, refused, number}
 use Rattle.lifting.specs.Meanings.{Meaning, Lawful}
 use Rattle.lifting.specs.Passes.{Breaks}
 use Rattle.lifting.specs.Stages.{Plane}
@@ -18,7 +18,6 @@ use Rattle.tiles.specs.declared.unplayed.Unplayed.{Unplayed}
 use Rattle.tiles.specs.declared.unplayed.Unplayed.TheVariants.{Refused, NoMemory}
 use Rattle.tiles.specs.Law.{ServesLikeTheReference}
 use Rattle.tiles.specs.Plays.{Played, PlayOf}
-use Rattle.tiles.specs.Reference.{history, reference}
 use Rattle.tiles.specs.Runs.{Run, HeldCall, HeldCalls, last_seen}
 use Rattle.tiles.specs.Tiles.{Seen, Moment, Called, opened, open_answer, allowed}
 use Rattle.tiles.specs.Views.{Told, event_told, moment_told}

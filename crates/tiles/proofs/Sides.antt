@@ -1,5 +1,5 @@
 -- Two tiles that are alike on one side of a closed border stay alike there. Assumes nothing.
-use Rattle.std.proofs.Common.{◌≡◌, ℕ, ◌+◌, ◌-◌, ◌<◌, Bool, true, false, not, eqb, ◌≢◌, ◌⊎◌, List, [], ◌∷◌, length, get_or, set, Some, None, Option, sym, refl, ap, ◌∙◌, subst, subst₂, inl, inr, arith, length-set, get_or-set_other, get_or-set_same}
+use Rattle.std.proofs.Common.{◌≡◌, ℕ, ◌+◌, ◌<◌, Bool, true, false, not, eqb, ◌≢◌, ◌⊎◌, List, [], ◌∷◌, length, get_or, set, Some, None, Option, sym, refl, ap, ◌∙◌, subst, subst₂, inl, inr, arith, length-set, get_or-set_other, get_or-set_same}
 use Rattle.std.proofs.lemmas.Bool.{cases_eq, eqb-true, true≢false, false≢true}
 use Rattle.geometry.specs.declared.corners.Corners.{Corners}
 use Rattle.geometry.specs.declared.point.Point.{Point}
@@ -7,19 +7,17 @@ use Rattle.geometry.specs.Frames.{same_frame}
 use Rattle.geometry.specs.Places.{inside, place, plane_length}
 use Rattle.geometry.specs.Refusals.{Answer, accepted, refused}
 use Rattle.geometry.proofs.Points.{places}
-use Rattle.lifting.specs.Borders.{Sides, Closed, AgreeOn}
+use Rattle.lifting.specs.Borders.{Sides, Closed}
 use Rattle.lifting.specs.Meanings.{Meaning}
 use Rattle.lifting.specs.Passes.{Breaks, on_point}
-use Rattle.lifting.specs.Stages.{Plane, stage_down, stage_up}
-use Rattle.lifting.proofs.StageLaws.{Alike, down_alike, up_alike, length_down, on_side, side_spreads, alike_from, alike_to, same_side, same_is}
+use Rattle.lifting.proofs.StageLaws.{Alike, down_alike, up_alike, on_side, side_spreads, alike_from, alike_to, same_side, same_is}
 use Rattle.tiles.specs.declared.call.Call.{Call}
 use Rattle.tiles.specs.declared.call.Call.TheVariants.{Put, Read, Begin, Down, Up, Finish}
 use Rattle.tiles.specs.declared.state.State.{State}
-use Rattle.tiles.specs.declared.state.State.TheVariants.{Picture, Bands}
 use Rattle.tiles.specs.Law.{RunsStayApart}
 use Rattle.tiles.specs.Runs.{Run, AlikeCall, AlikeCalls, AlikeAnswer, AlikeSeen, AlikeRuns}
-use Rattle.tiles.specs.Tiles.{Tile, Seen, Moment, either, opened, opening_stage, Called}
-use Rattle.tiles.proofs.Outcomes.{wrong_length, said, placing, staging, verdict, telling, result, outcome, comes_to}
+use Rattle.tiles.specs.Tiles.{Seen, Moment, either, opened, Called}
+use Rattle.tiles.proofs.Outcomes.{wrong_length, said, placing, staging, outcome, comes_to}
 
 same_or_not : (a b : Bool) → (a ≡ b) ⊎ (a ≢ b)
 same_or_not true true = inl refl

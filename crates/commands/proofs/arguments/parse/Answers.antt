@@ -1,4 +1,4 @@
-use Rattle.std.proofs.Common.{◌≡◌, true, false, length, codes, subst, inl, inr, rules}
+use Rattle.std.proofs.Common.{false, codes, subst, inl, inr, rules}
 use Rattle.commands.specs.Words.{Words}
 use Rattle.commands.specs.Commands.{Begins, Plated, Unplated, Replayed, Unreplayed}
 use Rattle.commands.proofs.Verbs.{rest}

@@ -1,4 +1,4 @@
-use Rattle.std.proofs.Common.{◌≡◌, ◌<◌, true, length, refl, subst, inr, rules}
+use Rattle.std.proofs.Common.{◌<◌, true, length, refl, subst, inr, rules}
 use Rattle.std.proofs.lemmas.Result.{err_from_is_err_and}
 use Rattle.commands.specs.Words.{Words}
 use Rattle.commands.specs.Commands.{Plated, Unplated}

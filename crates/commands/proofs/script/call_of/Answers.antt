@@ -1,6 +1,5 @@
-use Rattle.std.proofs.Common.{◌≡◌, ◌<◌, length, codes, arith, rules}
-use Rattle.tiles.specs.declared.call.Call.TheVariants.{Begin, Down, Up, Finish}
-use Rattle.commands.specs.Words.{text}
+use Rattle.std.proofs.Common.{codes, arith, rules}
+use Rattle.tiles.specs.declared.call.Call.TheVariants.{Down, Up, Finish}
 use Rattle.commands.proofs.Verbs.{after, alone_after}
 use Rattle.commands.proofs.script.call_of.Goals as goal
 

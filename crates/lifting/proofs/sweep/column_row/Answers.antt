@@ -1,4 +1,4 @@
-use Rattle.std.proofs.Common.{◌≡◌, ◌<◌, not, eqb, sym, ap, ◌∙◌, arith}
+use Rattle.std.proofs.Common.{not, eqb, arith}
 use denote.Param.{number, value_of}
 use Rattle.lifting.specs.Meanings.{meant}
 use Rattle.lifting.proofs.Rows.{front_length, column_moves, column_back, column_within}

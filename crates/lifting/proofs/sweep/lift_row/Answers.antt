@@ -1,10 +1,10 @@
-use Rattle.std.proofs.Common.{◌≡◌, ℕ, ◌+◌, ◌*◌, Bool, not, eqb, length, sym, refl, ap, ◌∙◌, subst, ap₂, arith}
+use Rattle.std.proofs.Common.{◌+◌, ◌*◌, not, eqb, sym, subst}
 use denote.Param.{number, value_of}
 use Rattle.geometry.specs.declared.direction.Direction.{Direction}
-use Rattle.geometry.specs.declared.direction.Direction.TheVariants.{Row, Column}
+use Rattle.geometry.specs.declared.direction.Direction.TheVariants.{Row}
 use Rattle.lifting.specs.Meanings.{meant}
-use Rattle.lifting.specs.Runs.{Moves, Small, inner, inner_count}
-use Rattle.lifting.proofs.Rows.{moves_on, column_skips}
+use Rattle.lifting.specs.Runs.{Moves, inner, inner_count}
+use Rattle.lifting.proofs.Rows.{moves_on}
 use Rattle.lifting.proofs.sweep.lift_row.Goals as goal
 
 pub returns-in-Row : goal.returns-in-Row

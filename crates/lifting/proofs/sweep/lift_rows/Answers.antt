@@ -1,10 +1,8 @@
-use Rattle.std.proofs.Common.{◌≡◌, ℕ, ◌+◌, ◌*◌, Bool, not, eqb, length, sym, refl, ap, ◌∙◌, subst, ap₂, arith}
+use Rattle.std.proofs.Common.{not, eqb, sym, ◌∙◌, subst}
 use denote.Param.{number, value_of}
-use Rattle.geometry.specs.declared.direction.Direction.{Direction}
-use Rattle.geometry.specs.declared.direction.Direction.TheVariants.{Row, Column}
 use Rattle.lifting.specs.Meanings.{meant}
-use Rattle.lifting.specs.Runs.{Moves, Small, inner, inner_count}
-use Rattle.lifting.proofs.Rows.{rows_none, rows_all, moves_on, moves_row}
+use Rattle.lifting.specs.Runs.{Small}
+use Rattle.lifting.proofs.Rows.{rows_none, rows_all, moves_row}
 use Rattle.lifting.proofs.sweep.lift_rows.Goals as goal
 
 pub loop-j-init : goal.loop-j-init

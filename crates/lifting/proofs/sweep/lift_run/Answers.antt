@@ -1,4 +1,4 @@
-use Rattle.std.proofs.Common.{◌≡◌, ◌+◌, ◌-◌, ◌*◌, not, eqb, List, get_or, sym, refl, ap, ◌∙◌, arith}
+use Rattle.std.proofs.Common.{◌+◌, ◌-◌, ◌*◌, not, eqb, get_or, sym, refl, ap, ◌∙◌}
 use denote.Param.{number, value_of}
 use Rattle.lifting.specs.Meanings.{meant}
 use Rattle.lifting.specs.Stages.{op, amount}

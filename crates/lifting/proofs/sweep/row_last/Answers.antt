@@ -1,4 +1,4 @@
-use Rattle.std.proofs.Common.{◌≡◌, ℕ, ◌+◌, ◌*◌, Bool, not, eqb, sym, refl, ap, ◌∙◌, ap₂, arith}
+use Rattle.std.proofs.Common.{ℕ, ◌+◌, ◌*◌, not, eqb, refl, ◌∙◌, ap₂}
 use denote.Param.{number, value_of}
 use Rattle.lifting.specs.Meanings.{meant}
 use Rattle.lifting.proofs.Rows.{last_other, last_done}

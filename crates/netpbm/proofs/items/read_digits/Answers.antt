@@ -1,4 +1,4 @@
-use Rattle.std.proofs.Common.{◌≡◌, ◌+◌, ◌-◌, ◌*◌, ◌^◌, ◌<◌, ◌≤◌, min, length, get_or, sym, ap, ◌∙◌, arith, ltb-false, ltb-true}
+use Rattle.std.proofs.Common.{◌≡◌, ◌+◌, ◌-◌, ◌*◌, ◌≤◌, length, get_or, sym, ap, ◌∙◌, arith, ltb-false, ltb-true}
 use Rattle.netpbm.specs.Reads.{value_on, after_digits}
 use Rattle.netpbm.specs.Seen.{capped}
 use Rattle.netpbm.proofs.Turns.{digits_stop, digits_end, digits_more}

@@ -1,6 +1,6 @@
 use Rattle.std.proofs.Common.{◌≡◌, ◌≤◌, not, length, sym, ap, ◌∙◌, arith, ltb-false, ltb-true}
 use Rattle.netpbm.specs.Reads.{skipped}
-use Rattle.netpbm.proofs.Turns.{rest_of, skip_none, skip_comment, skip_hash, skip_white, skip_stop}
+use Rattle.netpbm.proofs.Turns.{rest_of, skip_none, skip_comment, skip_hash, skip_white}
 use Rattle.netpbm.proofs.items.skip_gap.Goals as goal
 
 pub loop-rest-preserved-then-comment : goal.loop-rest-preserved-then-comment

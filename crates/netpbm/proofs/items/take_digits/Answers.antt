@@ -1,5 +1,5 @@
 use Rattle.std.proofs.Common.{sym, ◌∙◌, arith, ltb-false, ltb-true}
-use Rattle.netpbm.specs.Reads.{Read, got, fault}
+use Rattle.netpbm.specs.Reads.{got}
 use Rattle.netpbm.proofs.Turns.{digits_none, digits_other, digits_got}
 use Rattle.netpbm.proofs.items.take_digits.Goals as goal
 

@@ -1,7 +1,7 @@
-use Rattle.std.proofs.Common.{◌≡◌, sym, ap, ◌∙◌}
+use Rattle.std.proofs.Common.{ap, ◌∙◌}
 use Rattle.std.proofs.lemmas.Result.{err_from_is_err_and}
 use Rattle.netpbm.specs.Faults.{fault_number}
-use Rattle.netpbm.specs.Reads.{Read, got, fault, and_then, byte, magic}
+use Rattle.netpbm.specs.Reads.{fault, and_then, byte, magic}
 use Rattle.netpbm.specs.Seen.{seen_rest}
 use Rattle.netpbm.proofs.items.take_magic.Goals as goal
 

@@ -1,7 +1,7 @@
-use Rattle.std.proofs.Common.{◌≡◌, sym, ap, ◌∙◌}
+use Rattle.std.proofs.Common.{ap, ◌∙◌}
 use Rattle.std.proofs.lemmas.Result.{err_from_is_err_and}
 use Rattle.netpbm.specs.Faults.{fault_number}
-use Rattle.netpbm.specs.Reads.{Read, got, fault, and_then, digits, numeral}
+use Rattle.netpbm.specs.Reads.{fault, and_then, digits, numeral}
 use Rattle.netpbm.specs.Seen.{seen, capped_read}
 use Rattle.netpbm.proofs.items.take_numeral.Goals as goal
 

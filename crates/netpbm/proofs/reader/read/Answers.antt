@@ -1,8 +1,7 @@
-use Rattle.std.proofs.Common.{◌≡◌, ℕ, ◌*◌, ◌^◌, ◌<◌, length, vec_items, sym, ap, ◌∙◌, inl, inr, arith}
+use Rattle.std.proofs.Common.{◌≡◌, ℕ, ◌*◌, ◌^◌, ◌<◌, length, vec_items, ap, ◌∙◌, inl, inr, arith}
 use Rattle.std.proofs.lemmas.Result.{err_from_is_err_and}
 use Rattle.netpbm.specs.Answers.{refused}
 use Rattle.netpbm.specs.Faults.{fault_number}
-use Rattle.netpbm.specs.Parses.{sample_size}
 use Rattle.netpbm.specs.Rasters.{seen_raster}
 use Rattle.netpbm.specs.Seen.{capped}
 use Rattle.netpbm.proofs.Readings.{read_fault, read_short, read_over, read_wants, read_fits}

@@ -1,4 +1,4 @@
-use Rattle.std.proofs.Common.{◌≡◌, ℕ, ◌≤◌, List, ◌++◌, length, vec_items, sym, ap, ◌∙◌, arith, ltb-false, ltb-true}
+use Rattle.std.proofs.Common.{ℕ, ◌≤◌, List, ◌++◌, length, vec_items, ap, ◌∙◌, arith, ltb-false}
 use Rattle.netpbm.specs.Parses.{pairs}
 use Rattle.netpbm.proofs.Turns.{rest_of}
 use Rattle.netpbm.proofs.Samples.{pairs_more}

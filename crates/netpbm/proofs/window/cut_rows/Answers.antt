@@ -1,5 +1,5 @@
-use Rattle.std.proofs.Common.{◌≡◌, ℕ, ◌+◌, ◌-◌, ◌*◌, ◌≤◌, ◌++◌, length, take, drop, vec_items, ap, ◌∙◌, arith}
-use Rattle.netpbm.proofs.Cuts.{row_room, size_room, cut_none, cut_more}
+use Rattle.std.proofs.Common.{◌≡◌, ℕ, ◌+◌, ◌-◌, ◌*◌, ◌++◌, length, take, drop, vec_items, ap, ◌∙◌, arith}
+use Rattle.netpbm.proofs.Cuts.{row_room, size_room, cut_more}
 use Rattle.netpbm.proofs.window.cut_rows.Goals as goal
 
 pub overflow_mul-w : goal.overflow_mul-w

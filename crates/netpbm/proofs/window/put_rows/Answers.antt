@@ -1,7 +1,7 @@
-use Rattle.std.proofs.Common.{◌≡◌, ℕ, ◌+◌, ◌-◌, ◌*◌, ◌≤◌, List, length, take, drop, sym, ap, ◌∙◌, subst, arith}
+use Rattle.std.proofs.Common.{◌≡◌, ℕ, ◌+◌, ◌-◌, ◌*◌, length, take, drop, ap, ◌∙◌, subst, arith}
 use borrow.Rule.Slice.PartMut.{put_mid}
-use Rattle.netpbm.specs.Windows.{PartRows, RowsPut}
-use Rattle.netpbm.proofs.Cuts.{row_room, part_room, put_none, put_more, own_more}
+use Rattle.netpbm.specs.Windows.{RowsPut}
+use Rattle.netpbm.proofs.Cuts.{row_room, part_room, put_more, own_more}
 use Rattle.netpbm.proofs.window.put_rows.Goals as goal
 
 pub overflow_mul-start : goal.overflow_mul-start

@@ -1,4 +1,4 @@
-use Rattle.std.proofs.Common.{◌≡◌, ℕ, ◌+◌, ◌*◌, ◌≤◌, length, sym, ap, ◌∙◌, subst, arith, rules}
+use Rattle.std.proofs.Common.{◌+◌, length, sym, arith, rules}
 use Rattle.netpbm.proofs.Cuts.{size_room, rows_room, inside_parts}
 use Rattle.netpbm.proofs.Joins.{own_taken, joined_windows}
 use Rattle.netpbm.proofs.window.put_window.Goals as goal

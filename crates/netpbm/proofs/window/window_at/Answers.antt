@@ -1,8 +1,7 @@
-use Rattle.std.proofs.Common.{◌≡◌, ℕ, ◌*◌, ◌<◌, Bool, false, not, ◌&&◌, ltb, sym, ap, ◌∙◌, arith}
+use Rattle.std.proofs.Common.{◌≡◌, ◌*◌, ◌<◌, Bool, false, not, ◌&&◌, ltb, sym, ap, ◌∙◌, arith}
 use Rattle.std.proofs.lemmas.Bool.{le-ltb, and_left, and_right, cond-true}
 use Rattle.netpbm.specs.Answers.{accepted}
 use Rattle.netpbm.specs.Windows.{across}
-use Rattle.netpbm.specs.declared.window.Window.{Window}
 use Rattle.netpbm.proofs.Covers.{starts_within, window_is, covered}
 use Rattle.netpbm.proofs.window.window_at.Goals as goal
 use Rattle.netpbm.proofs.window.window_at.Goals.{then-column-windows_across-via-then-column-windows_across, then-column-windows_across-via-else-column-windows_across+then-row-windows_across}

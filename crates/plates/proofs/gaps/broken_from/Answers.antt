@@ -1,4 +1,4 @@
-use Rattle.std.proofs.Common.{◌≡◌, ℕ, ◌+◌, sym, ◌∙◌, ap₂, arith}
+use Rattle.std.proofs.Common.{ℕ, ◌+◌, sym, ◌∙◌, ap₂, arith}
 use Rattle.plates.specs.Tallies.{weigh, gap_at}
 use Rattle.plates.proofs.Sums.{total_none, total_more}
 use Rattle.plates.proofs.gaps.broken_from.Goals as goal

@@ -1,4 +1,4 @@
-use Rattle.std.proofs.Common.{◌≡◌, ℕ, ◌+◌, sym, ◌∙◌, ap₂, arith}
+use Rattle.std.proofs.Common.{ℕ, ◌+◌, sym, ◌∙◌, ap₂, arith}
 use Rattle.plates.specs.Tallies.{weigh}
 use Rattle.plates.specs.Tiles.{lost}
 use Rattle.plates.proofs.Sums.{total_none, total_more}

@@ -1,4 +1,4 @@
-use Rattle.std.proofs.Common.{◌≡◌, fold, sym, ap, ◌∙◌, arith, w32, to_z, rules}
+use Rattle.std.proofs.Common.{◌≡◌, fold, arith, w32, to_z}
 use Rattle.std.specs.Int.{int_max, int_min}
 use Rattle.std.proofs.lemmas.List.{take_all}
 use Rattle.std.proofs.lemmas.Int.{to_z-of_z}

@@ -1,4 +1,4 @@
-use Rattle.std.proofs.Common.{◌≡◌, true, vec_items, sym, refl, ap, ◌∙◌, rules}
+use Rattle.std.proofs.Common.{◌≡◌, true, vec_items, refl, ap, ◌∙◌, rules}
 use Rattle.std.proofs.lemmas.Result.{err_from_is_err_and}
 use Rattle.geometry.specs.Frames.{corners_of, same_frame}
 use Rattle.lifting.specs.Stages.{Plane}

@@ -1,4 +1,4 @@
-use Rattle.std.proofs.Common.{◌≡◌, ℕ, ◌+◌, sym, ◌∙◌, ap₂, arith}
+use Rattle.std.proofs.Common.{ℕ, ◌+◌, sym, ◌∙◌, ap₂, arith}
 use Rattle.rufkandu.specs.Tallies.{broken_from}
 use Rattle.rufkandu.proofs.Sums.{total_none, total_more}
 use Rattle.rufkandu.proofs.gaps.broken_rows.Goals as goal

@@ -1,4 +1,4 @@
-use Rattle.std.proofs.Common.{◌≡◌, sym, ap, ◌∙◌, arith}
+use Rattle.std.proofs.Common.{◌≡◌, ◌∙◌, arith}
 use Rattle.geometry.specs.Frames.{corners_of}
 use Rattle.rufkandu.proofs.Trips.{further_up, top}
 use Rattle.rufkandu.proofs.work.ascend.Goals as goal

@@ -1,4 +1,4 @@
-use Rattle.std.proofs.Common.{◌≡◌, ℕ, ◌+◌, sym, ◌∙◌, ap₂, arith}
+use Rattle.std.proofs.Common.{ℕ, ◌+◌, sym, ◌∙◌, ap₂, arith}
 use Rattle.rufkandu.specs.Tallies.{weigh}
 use Rattle.rufkandu.specs.Tiles.{lost}
 use Rattle.rufkandu.proofs.Sums.{total_none, total_more}

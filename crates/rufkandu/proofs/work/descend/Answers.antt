@@ -1,4 +1,4 @@
-use Rattle.std.proofs.Common.{◌≡◌, ℕ, ◌-◌, sym, ap, ◌∙◌, arith}
+use Rattle.std.proofs.Common.{◌≡◌, ℕ, ◌-◌, ap, ◌∙◌, arith}
 use Rattle.geometry.specs.Frames.{corners_of}
 use Rattle.lifting.specs.Stages.{transform}
 use Rattle.rufkandu.specs.Bands.{by_mean}

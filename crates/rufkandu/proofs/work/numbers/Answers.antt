@@ -1,4 +1,4 @@
-use Rattle.std.proofs.Common.{◌≡◌, ℕ, ◌+◌, ◌<◌, List, [], ◌∷◌, ◌++◌, map, length, get_or, take, ℤ, pos, vec_items, sym, ap, ◌∙◌, ap₂, rules}
+use Rattle.std.proofs.Common.{◌≡◌, ℕ, ◌+◌, ◌<◌, List, [], ◌∷◌, ◌++◌, map, length, get_or, take, ℤ, pos, sym, ap, ◌∙◌, ap₂, rules}
 use Rattle.std.proofs.lemmas.List.{take_more, take_all, map_push}
 use Rattle.rufkandu.proofs.work.numbers.Goals as goal
 

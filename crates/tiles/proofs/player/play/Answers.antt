@@ -1,6 +1,5 @@
 use Rattle.std.proofs.Common.{◌≡◌, ◌<◌, Bool, cond, [], ◌∷◌, ◌++◌, vec_items, vec_len, vec_capacity, sym, refl, ap, ◌∙◌, arith}
 use Rattle.std.proofs.lemmas.Result.{err_from_is_err_and}
-use Rattle.geometry.specs.Frames.{corners_of}
 use Rattle.lifting.specs.Meanings.{Meaning, Lawful, meant}
 use Rattle.tiles.specs.AnyTiles.{any_tile}
 use Rattle.tiles.specs.Tiles.{Seen, Moment}

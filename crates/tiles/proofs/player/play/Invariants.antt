@@ -1,4 +1,4 @@
-use Rattle.std.proofs.Common.{◌≡◌, ◌≤◌, length, vec_items, vec_capacity}
+use Rattle.std.proofs.Common.{◌≤◌, length, vec_items, vec_capacity}
 use Rattle.lifting.specs.Meanings.{meant}
 use Rattle.tiles.specs.AnyTiles.{any_tile}
 use Rattle.tiles.specs.Views.{with_plane}

@@ -1,6 +1,5 @@
-use Rattle.std.proofs.Common.{◌≡◌, sym, ap, ◌∙◌, subst, arith}
+use Rattle.std.proofs.Common.{sym, ap, ◌∙◌, subst, arith}
 use Rattle.geometry.specs.declared.corners.Corners.{Corners}
-use Rattle.geometry.specs.declared.point.Point.{Point}
 use Rattle.geometry.specs.Frames.{is_gap, corners_of}
 use Rattle.geometry.proofs.Points.{Inside}
 use Rattle.breaks.specs.Labels.{map_of, label}

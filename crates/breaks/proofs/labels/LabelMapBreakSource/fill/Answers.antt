@@ -1,10 +1,9 @@
-use Rattle.std.proofs.Common.{◌≡◌, sym, refl, ap, ◌∙◌, subst, arith}
+use Rattle.std.proofs.Common.{sym, ap, ◌∙◌, subst, arith}
 use Rattle.geometry.specs.Frames.{corners_of}
 use Rattle.geometry.specs.Refusals.{seen}
 use Rattle.geometry.proofs.Bounds.{refused_frame, unframed}
-use Rattle.breaks.specs.declared.flags.Flags.{Flags}
 use Rattle.breaks.specs.Labels.{map_of, label_broken}
-use Rattle.breaks.specs.Sources.{FlagsOf, point_in}
+use Rattle.breaks.specs.Sources.{FlagsOf}
 use Rattle.breaks.proofs.Fills.{filled_more, unframed_broken}
 use Rattle.breaks.proofs.LabelMaps.{broken_outside}
 use Rattle.breaks.proofs.labels.LabelMapBreakSource.fill.Goals as goal

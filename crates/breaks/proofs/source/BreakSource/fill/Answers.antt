@@ -1,4 +1,4 @@
-use Rattle.std.proofs.Common.{◌≡◌, sym, refl, ap, ◌∙◌, arith}
+use Rattle.std.proofs.Common.{refl, ap, ◌∙◌, arith}
 use Rattle.breaks.specs.Sources.{FlagsOf, point_in}
 use Rattle.breaks.proofs.Fills.{filled_more, far_broken, before_some, before_none, flags_of}
 use Rattle.breaks.proofs.source.BreakSource.fill.Goals as goal

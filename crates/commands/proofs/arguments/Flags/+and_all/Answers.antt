@@ -1,4 +1,4 @@
-use Rattle.std.proofs.Common.{◌≡◌, ◌<◌, length, drop, subst, arith, rules}
+use Rattle.std.proofs.Common.{◌<◌, length, subst, arith, rules}
 use Rattle.std.proofs.lemmas.Result.{err_from_is_err_and}
 use Rattle.commands.specs.Words.{Words, word, text}
 use Rattle.commands.specs.Commands.{Flag, BadFlag}

@@ -1,8 +1,8 @@
-use Rattle.std.proofs.Common.{◌≡◌, drop, sym, refl, ap, ◌∙◌, subst, inl, inr, rules}
+use Rattle.std.proofs.Common.{drop, refl, ap, ◌∙◌, subst, inl, inr, rules}
 use Rattle.std.proofs.lemmas.Result.{err_from_is_err_and}
 use Rattle.commands.specs.Words.{Words}
 use Rattle.commands.specs.Commands.{Number}
-use Rattle.commands.specs.Commands.Flag.{flag_levels, flag_labels, flag_at, flag_bands}
+use Rattle.commands.specs.Commands.Flag.{flag_levels, flag_labels, flag_at}
 use Rattle.commands.proofs.Flagging.{Fails, bad_number, bad_second}
 use Rattle.commands.proofs.arguments.Flags.and.Goals as goal
 

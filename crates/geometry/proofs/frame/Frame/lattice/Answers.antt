@@ -1,12 +1,11 @@
-use Rattle.std.proofs.Common.{◌≡◌, ℕ, ◌+◌, ◌-◌, ◌*◌, ◌<◌, ◌≤◌, true, leb, sym, refl, ap, ◌∙◌, subst, ap₂, arith, w32, Fits}
+use Rattle.std.proofs.Common.{◌≡◌, ℕ, ◌+◌, ◌-◌, ◌*◌, ◌<◌, ◌≤◌, leb, sym, ◌∙◌, subst, ap₂, arith}
 use Rattle.std.proofs.lemmas.Bool.{cond-false, lt-leb}
 use Rattle.geometry.specs.declared.direction.Direction.TheVariants.{Row, Column}
 use Rattle.geometry.specs.declared.frame.Frame.{Frame}
 use Rattle.geometry.specs.declared.lattice.Lattice.{Lattice}
-use Rattle.geometry.specs.declared.point.Point.{Point}
-use Rattle.geometry.specs.Frames.{apart, width, low, high, corners_of, resolution_of}
-use Rattle.geometry.specs.Places.{place, lattice_at, no_lattice, lattice_of, Steps, Spots}
-use Rattle.geometry.proofs.Bounds.{side, extent, answered}
+use Rattle.geometry.specs.Frames.{width, low, corners_of}
+use Rattle.geometry.specs.Places.{place, lattice_at, no_lattice, lattice_of, Steps}
+use Rattle.geometry.proofs.Bounds.{extent, answered}
 use Rattle.geometry.proofs.Lattices.{lattice_is, steps_of}
 use Rattle.geometry.proofs.Points.{spots}
 use Rattle.geometry.proofs.frame.Frame.lattice.Goals as goal

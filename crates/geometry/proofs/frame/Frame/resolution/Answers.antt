@@ -1,5 +1,5 @@
-use Rattle.std.proofs.Common.{◌≡◌, ℕ, sym, ap, ◌∙◌, arith, rules}
-use Rattle.geometry.specs.Frames.{corners_of, ceil, apart, low, high}
+use Rattle.std.proofs.Common.{ap, ◌∙◌, arith, rules}
+use Rattle.geometry.specs.Frames.{ceil, apart, low, high}
 use Rattle.geometry.proofs.frame.Frame.resolution.Goals as goal
 
 pub ceil_of-requires : goal.ceil_of-requires

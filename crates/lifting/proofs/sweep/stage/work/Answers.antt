@@ -1,4 +1,4 @@
-use Rattle.std.proofs.Common.{◌≡◌, not, eqb, length, ap, ◌∙◌}
+use Rattle.std.proofs.Common.{not, eqb, length, ap, ◌∙◌}
 use denote.Param.{number, value_of}
 use Rattle.geometry.specs.Frames.{corners_of}
 use Rattle.geometry.specs.Refusals.{Answer}

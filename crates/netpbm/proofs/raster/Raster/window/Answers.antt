@@ -1,4 +1,4 @@
-use Rattle.std.proofs.Common.{◌≡◌, ℕ, ◌+◌, ◌*◌, ◌≤◌, length, sym, ap, ◌∙◌, mul_comm, arith}
+use Rattle.std.proofs.Common.{ℕ, ◌+◌, ◌*◌, length, sym, ap, ◌∙◌, mul_comm, arith}
 use Rattle.std.proofs.lemmas.Nat.{mul-le}
 use Rattle.netpbm.proofs.Cuts.{inside_parts}
 use Rattle.netpbm.proofs.raster.Raster.window.Goals as goal
