@@ -47,18 +47,14 @@ module _ (m : Labelled) (g : Gap) where
     pub broken_unlike : (label m (scaled g.from n) ≡ label m (further g.direction (scaled g.from n) n) → ⊥) → true ≡ label_broken m g
     broken_unlike s = sym (at_gap ∙ ap not (ne_eqb _ _ s))
 
--- a gap of the frame k, which is the frame c, with its points n apart
+-- a gap of the frame c, with its points n apart among the finest points
 pub record Ends (c : Corners) (g : Gap) (n : ℕ) : Type 0 where
-  pub gap : is_gap c g ≡ true
-  pub step : n ≡ apart c g.resolution
   pub from : Inside c (scaled g.from n)
   pub to : Inside c (further g.direction (scaled g.from n) n)
   pub right : c.x1 ≤ 1073741824
   pub bottom : c.y1 ≤ 1073741824
 
-pub ends : (c k : Corners) (g : Gap) (n : ℕ) → k ≡ c → true ≡ is_gap k g → n ≡ apart k g.resolution → Ends c g n
-ends c k g n same e is =
-    let gap : is_gap c g ≡ true = ap (λ (v : Corners). is_gap v g) (sym same) ∙ sym e in
-    let step : n ≡ apart c g.resolution = is ∙ ap (λ (v : Corners). apart v g.resolution) same in
-    let framed = (gap_parts c g gap).framed in
-    record { gap = gap; step = step; from = from_inside c g n step gap; to = to_inside c g n step gap; right = framed.right; bottom = framed.bottom }
+pub ends : (c : Corners) (g : Gap) (n : ℕ) → is_gap c g ≡ true → n ≡ apart c g.resolution → Ends c g n
+ends c g n e is =
+    let framed = (gap_parts c g e).framed in
+    record { from = from_inside c g n is e; to = to_inside c g n is e; right = framed.right; bottom = framed.bottom }

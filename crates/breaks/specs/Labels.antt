@@ -18,7 +18,7 @@ pub record Labelled : Type 0 where
   pub labels : List ℕ
 
 abbrev pub map_of : LabelMap → Labelled
-map_of m = record { frame = m.corners; labels = m.labels.now }
+map_of m = record { frame = m.frame.corners; labels = m.labels.now }
 
 -- a label map has a label for each finest point, row by row
 abbrev pub map_length : Corners → ℕ

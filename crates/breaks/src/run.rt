@@ -22,11 +22,8 @@ impl Run {
     {
         let far = k.checked_mul(self.step as usize)?;
         let x = far.checked_add(self.first.x as usize)?;
-        if x > 0xffff_ffff {
-            return None;
-        }
         Some(Point {
-            x: x as u32,
+            x: u32::try_from(x).ok()?,
             y: self.first.y,
         })
     }
@@ -46,10 +43,16 @@ impl Run {
     pub fn gap_before(&self, p: Point) -> Option<Gap>
         ensures { result ≡ gap_before self.now.resolution self.now.direction p }
     {
-        match self.direction {
-            Direction::Row if p.x > 0 => Some(self.gap_after(Point { x: p.x - 1, y: p.y })),
-            Direction::Column if p.y > 0 => Some(self.gap_after(Point { x: p.x, y: p.y - 1 })),
-            _ => None,
-        }
+        let from = match self.direction {
+            Direction::Row => Point {
+                x: p.x.checked_sub(1)?,
+                y: p.y,
+            },
+            Direction::Column => Point {
+                x: p.x,
+                y: p.y.checked_sub(1)?,
+            },
+        };
+        Some(self.gap_after(from))
     }
 }

@@ -33,18 +33,15 @@ pub trait BreakSource {
     fn fill(&self, run: Run, flags: &mut [Flags])
         ensures { Flagged (broken self.now) flags.new run }
     {
-        for k in 0..flags.len() {
-            let mut pair = Flags {
-                before: Wholeness::Broken,
-                after: Wholeness::Broken,
-            };
+        for (k, flag) in flags.iter_mut().enumerate() {
+            let mut pair = Flags::default();
             if let Some(p) = run.point(k) {
                 pair.after = self.gap(run.gap_after(p));
                 if let Some(g) = run.gap_before(p) {
                     pair.before = self.gap(g);
                 }
             }
-            flags[k] = pair;
+            *flag = pair;
         }
     }
 }

@@ -4,11 +4,11 @@ ghost use Rattle.geometry.specs.declared.point.Point.{Point as point};
 ghost use Rattle.commands.specs.Scripts.{WritesPoint, Said, SaidAfter};
 
 use geometry::point::Point;
-use std::alloc::{AllocError, AllocFailed, Global};
+use std::alloc::{AllocError, Global};
 use tiles::Call;
 
 // Why a script cannot be read.
-#[derive(Clone, Copy)]
+#[derive(Clone, Copy, PartialEq, Eq, Debug)]
 pub enum Unread {
     // The line of this number is no call.
     NoCall(usize),
@@ -21,22 +21,12 @@ impl From<AllocError> for Unread {
     }
 }
 
-impl<T: Drop> From<AllocFailed<T>> for Unread {
-    fn from(_e: AllocFailed<T>) -> Unread {
-        Unread::NoMemory
-    }
-}
-
 // The point that two words say.
 fn point_of(x: &str, y: &str) -> Option<Point>
     ensures { MatchOption result ((p : point) → WritesPoint x.now y.now p → ⊥) (λ p. WritesPoint x.now y.now p) }
 {
-    let Ok(x) = x.parse::<u32>() else {
-        return None;
-    };
-    let Ok(y) = y.parse::<u32>() else {
-        return None;
-    };
+    let x = x.parse::<u32>().ok()?;
+    let y = y.parse::<u32>().ok()?;
     Some(Point { x, y })
 }
 
@@ -47,9 +37,7 @@ fn put_of(words: &[&str]) -> Option<Call<i32>>
     let [x, y, v] = words else {
         return None;
     };
-    let Ok(v) = v.parse::<i32>() else {
-        return None;
-    };
+    let v = v.parse::<i32>().ok()?;
     Some(Call::Put(point_of(x, y)?, v))
 }
 
@@ -67,7 +55,7 @@ fn read_of(words: &[&str]) -> Option<Call<i32>>
 fn alone(call: Call<i32>, words: &[&str]) -> Option<Call<i32>>
     ensures { MatchOption result (0 < length words.now) (λ c. (c ≡ call) × (length words.now ≡ 0)) }
 {
-    if words.is_empty() { Some(call) } else { None }
+    words.is_empty().then_some(call)
 }
 
 // The call that the words of a line say, if they say one.
@@ -97,21 +85,14 @@ fn line_call(heap: Global, line: &str, number: usize) -> Result<Option<Call<i32>
     if words.is_empty() {
         return Ok(None);
     }
-    match call_of(words.as_slice()) {
-        Some(call) => Ok(Some(call)),
-        None => Err(Unread::NoCall(number)),
-    }
+    let call = call_of(words.as_slice()).ok_or(Unread::NoCall(number))?;
+    Ok(Some(call))
 }
 
 // The calls of a script.
 pub fn calls_of(heap: Global, text: &str) -> Result<Vec<Call<i32>>, Unread> {
-    let mut calls = Vec::new(heap);
-    let mut number = 0usize;
-    for line in text.lines() {
-        number = number.saturating_add(1);
-        if let Some(call) = line_call(heap, line, number)? {
-            calls.push(call)?;
-        }
-    }
-    Ok(calls)
+    text.lines()
+        .enumerate()
+        .filter_map(|(before, line)| line_call(heap, line, before.saturating_add(1)).transpose())
+        .try_collect(heap)
 }

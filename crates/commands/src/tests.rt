@@ -1,7 +1,7 @@
 // What is made of command lines and scripts, on examples.
-use crate::arguments::{Command, Job, parse};
+use crate::arguments::{Action, Command, Job, parse, plated};
 use crate::script::{Unread, calls_of};
-use crate::transcript::{Rows, Transcript, state_word};
+use crate::transcript::{Rows, Transcript};
 use breaks::labels::LabelMap;
 use geometry::frame::Frame;
 use samples::mean::MeanStep;
@@ -13,8 +13,8 @@ fn job_text(heap: Global, job: Job) -> Result<String, AllocError> {
     let plate = job.plate;
     let labels = job.labels.unwrap_or("none");
     let levels = job.levels;
-    let x = job.x;
-    let y = job.y;
+    let x = job.at.x;
+    let y = job.at.y;
     format!(in heap; "{plate}, labels {labels}, {levels} levels at {x} {y}")
 }
 
@@ -24,7 +24,7 @@ fn said(heap: Global, words: &[&str]) -> Result<String, AllocError> {
         Ok(Command::Check(job)) => job_text(heap, job),
         Ok(Command::Replay(replay)) => {
             let script = replay.script;
-            let state = state_word(replay.opening);
+            let state = replay.opening;
             let job = job_text(heap, replay.job)?;
             format!(in heap; "{script} as {state} on {job}")
         }
@@ -88,6 +88,40 @@ fn replay_arguments(rt: HostRuntime) -> Result<(), Fail> {
     Ok(())
 }
 
+// What is said of the words of a plate and its flags.
+fn plate_said(heap: Global, action: Action, words: &[&str]) -> Result<String, AllocError> {
+    match plated(action, words) {
+        Ok((job, state)) => {
+            let job = job_text(heap, job)?;
+            format!(in heap; "{job} as {state}")
+        }
+        Err(usage) => format!(in heap; "{usage}"),
+    }
+}
+
+#[test]
+fn plates(rt: HostRuntime) -> Result<(), Fail> {
+    let heap = rt.alloc();
+    assert_eq!(rt;
+        plate_said(heap, Action::Check, &[])?.as_str(),
+        "the plate is missing: check PLATE.pgm --levels N, or replay SCRIPT PLATE.pgm --levels N"
+    );
+    assert_eq!(rt;
+        plate_said(
+            heap,
+            Action::Check,
+            &["p", "--levels", "3", "--levels", "2"]
+        )?
+        .as_str(),
+        "p, labels none, 2 levels at 0 0 as picture"
+    );
+    assert_eq!(rt;
+        plate_said(heap, Action::Replay, &["p", "--bands", "--levels", "3"])?.as_str(),
+        "p, labels none, 3 levels at 0 0 as bands"
+    );
+    Ok(())
+}
+
 // What is printed of a script that is played on a plate of two samples with one level, whose corner is at (4, 2).
 fn replayed(heap: Global, state: State, script: &str) -> Result<String, Fail> {
     let calls = match calls_of(heap, script) {
@@ -98,7 +132,7 @@ fn replayed(heap: Global, state: State, script: &str) -> Result<String, Fail> {
     let frame = Frame::new(4, 2, 6, 3, 1)?;
     let source = LabelMap::new(frame, &[7, 7])?;
     let mut plane = [10, 30];
-    let Ok(events) = play(
+    let events = play(
         heap,
         frame,
         state,
@@ -106,9 +140,7 @@ fn replayed(heap: Global, state: State, script: &str) -> Result<String, Fail> {
         &MeanStep,
         &source,
         calls.as_slice(),
-    ) else {
-        return Err(Fail::new("not played"));
-    };
+    )?;
     let transcript = Transcript {
         calls: calls.as_slice(),
         events: events.as_slice(),

@@ -1,89 +1,46 @@
 // What can go wrong in a run.
+// What both test programs have is the same text in both.
 use geometry::refusal::Refusal;
-use std::alloc::{AllocError, AllocFailed};
-use std::num::ParseIntError;
-use std::{fmt, io};
+use std::alloc::AllocError;
+use std::io;
+use thiserror::Error;
 
 // The first place at which two planes differ.
-#[derive(Clone, Copy, PartialEq, Eq, Debug)]
+#[derive(Clone, Copy, PartialEq, Eq, Debug, Error)]
+#[error("DIFFERS at place {place}: got {got}, wanted {wanted}")]
 pub struct Difference {
     pub place: usize,
     pub got: i32,
     pub wanted: i32,
 }
 
-#[derive(Debug, Drop)]
+#[derive(Debug, Drop, Error)]
 pub enum Fault {
     // one of the crates refused
-    Refused(Refusal),
+    #[error(transparent)]
+    Refused(#[from] Refusal),
     // a vector is not of the form `x0 y0 x1 y1 levels : samples -> samples`
+    #[error("cannot be read")]
     Unreadable,
-    Differs(Difference),
-    Memory,
-    Io(io::Error),
+    #[error(transparent)]
+    Differs(#[from] Difference),
+    #[error("no memory")]
+    Memory(#[from(alloc)] AllocError),
+    #[error(transparent)]
+    Io(#[from] io::Error),
     // some line that was printed tells of a fault
+    #[error("not all is right")]
     Failed,
-}
-
-impl From<Refusal> for Fault {
-    fn from(why: Refusal) -> Fault {
-        Fault::Refused(why)
-    }
-}
-
-impl From<ParseIntError> for Fault {
-    fn from(_e: ParseIntError) -> Fault {
-        Fault::Unreadable
-    }
-}
-
-impl From<AllocError> for Fault {
-    fn from(_e: AllocError) -> Fault {
-        Fault::Memory
-    }
-}
-
-impl<T: Drop> From<AllocFailed<T>> for Fault {
-    fn from(_e: AllocFailed<T>) -> Fault {
-        Fault::Memory
-    }
-}
-
-impl From<io::Error> for Fault {
-    fn from(e: io::Error) -> Fault {
-        Fault::Io(e)
-    }
-}
-
-impl fmt::Display for Fault {
-    fn fmt<W: fmt::Write>(&self, f: &mut fmt::Formatter<W>) -> fmt::Result {
-        match self {
-            Fault::Refused(why) => write!(f, "{why}"),
-            Fault::Unreadable => f.write_str("cannot be read"),
-            Fault::Differs(d) => {
-                let Difference { place, got, wanted } = *d;
-                write!(f, "DIFFERS at place {place}: got {got}, wanted {wanted}")
-            }
-            Fault::Memory => f.write_str("no memory"),
-            Fault::Io(e) => write!(f, "{e}"),
-            Fault::Failed => f.write_str("not all is right"),
-        }
-    }
 }
 
 // Whether two planes are the same.
 pub fn compare(got: &[i32], wanted: &[i32]) -> Result<(), Fault> {
     if got.len() != wanted.len() {
-        return Err(Fault::Refused(Refusal::WrongLength));
+        return Err(Fault::from(Refusal::WrongLength));
     }
-    for k in 0..got.len() {
-        if got[k] != wanted[k] {
-            return Err(Fault::Differs(Difference {
-                place: k,
-                got: got[k],
-                wanted: wanted[k],
-            }));
-        }
+    let mut pairs = got.iter().copied().zip(wanted.iter().copied()).enumerate();
+    match pairs.find(|(_, (got, wanted))| got != wanted) {
+        Some((place, (got, wanted))) => Err(Fault::from(Difference { place, got, wanted })),
+        None => Ok(()),
     }
-    Ok(())
 }

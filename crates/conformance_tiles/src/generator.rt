@@ -1,7 +1,8 @@
 // Random numbers, frames, labels and pictures.
+// The same text stands in both test programs.
 use crate::fault::Fault;
 use geometry::frame::Frame;
-use std::alloc::Global;
+use std::alloc::{AllocError, Global};
 
 // A linear congruential generator.
 #[derive(Clone, Copy)]
@@ -20,7 +21,7 @@ impl Generator {
             .state
             .wrapping_mul(6364136223846793005)
             .wrapping_add(1442695040888963407);
-        let high = u32::try_from(self.state >> 33).unwrap_or(0);
+        let high = (self.state >> 33) as u32;
         high.checked_rem(bound).unwrap_or(0)
     }
 
@@ -34,35 +35,30 @@ impl Generator {
     }
 
     // Labels from 1 to at most 3 values. Half of the tiles have them in runs: three points of four have the label of the point before.
-    pub fn labels(&mut self, heap: Global, length: usize) -> Result<Vec<u16>, Fault> {
+    pub fn labels(&mut self, heap: Global, length: usize) -> Result<Vec<u16>, AllocError> {
         let kinds = self.below(3).wrapping_add(1);
         let in_runs = self.below(2) == 0;
-        let mut all = Vec::new(heap);
         let mut last = 0u16;
-        for _ in 0..length {
-            if !in_runs || self.below(4) == 0 {
-                last = u16::try_from(self.below(kinds)).unwrap_or(0);
-            }
-            all.push(last)?;
-        }
-        Ok(all)
+        (0..length)
+            .map(|_| {
+                if !in_runs || self.below(4) == 0 {
+                    last = u16::try_from(self.below(kinds)).unwrap_or(0);
+                }
+                last
+            })
+            .collect(heap)
     }
 
     // Any number.
     pub fn number(&mut self) -> i32 {
-        let low = i64::from(self.below(65536));
-        let high = i64::from(self.below(65536)).wrapping_mul(65536);
-        i32::try_from(high.wrapping_add(low).wrapping_sub(2147483648)).unwrap_or(0)
+        let low = self.below(1 << 16);
+        let high = self.below(1 << 16);
+        ((high << 16) | low).wrapping_sub(1 << 31).cast_signed()
     }
 
     // Samples of eight bits, or, in one tile of four, any numbers.
-    pub fn picture(&mut self, heap: Global, length: usize) -> Result<Vec<i32>, Fault> {
-        let any = self.below(4) == 0;
-        let mut all = Vec::new(heap);
-        for _ in 0..length {
-            let number = self.number();
-            all.push(if any { number } else { number >> 24 })?;
-        }
-        Ok(all)
+    pub fn picture(&mut self, heap: Global, length: usize) -> Result<Vec<i32>, AllocError> {
+        let shift = if self.below(4) == 0 { 0 } else { 24 };
+        (0..length).map(|_| self.number() >> shift).collect(heap)
     }
 }

@@ -1,6 +1,7 @@
 // Runs the transform on whole tiles that another implementation computed, on random tiles under labels beside a plain
 // implementation of this crate's own, and random scripts of a tile's calls beside a reference tile. Prints what came of it, and
 // ends with an Err where anything differs.
+// What both test programs have is the same text in both.
 #![tactic(auto)]
 
 mod fault;
@@ -16,8 +17,10 @@ mod tests;
 mod tile;
 mod told;
 mod vector;
+mod worked;
 
 use fault::Fault;
+use std::fmt::Display;
 use tally::Tally;
 use vector::run_vector;
 
@@ -26,6 +29,25 @@ const TILES: u32 = 300;
 
 // How many random scripts are tried.
 const SCRIPTS: u32 = 400;
+
+// Prints a line: what is right, or what was tried and why it is not right. Whether it is right.
+fn report(
+    rt: &HostRuntime,
+    outcome: Result<(), Fault>,
+    right: impl Display + Drop,
+    tried: impl Display + Drop,
+) -> Result<bool, Fault> {
+    match outcome {
+        Ok(()) => {
+            println!(rt; "{right}")?;
+            Ok(true)
+        }
+        Err(why) => {
+            println!(rt; "{tried}: {why}")?;
+            Ok(false)
+        }
+    }
+}
 
 // Every vector of the input, a line for each. Whether all were right.
 fn vectors(rt: &HostRuntime) -> Result<bool, Fault> {
@@ -36,57 +58,43 @@ fn vectors(rt: &HostRuntime) -> Result<bool, Fault> {
         if text.is_empty() || text.starts_with('#') {
             continue;
         }
-        let head = text.split_once(':').unwrap_or((text, "")).0.trim();
-        match run_vector(rt.alloc(), text) {
-            Ok(()) => println!(rt; "{head}: bands as computed elsewhere, picture back")?,
-            Err(why) => {
-                right = false;
-                println!(rt; "{head}: {why}")?;
-            }
-        }
+        let head = text.split_once(':').map_or(text, |(head, _)| head.trim());
+        right &= report(
+            rt,
+            run_vector(rt.alloc(), text),
+            format_args!("{head}: bands as computed elsewhere, picture back"),
+            head,
+        )?;
     }
     Ok(right)
 }
 
 // The random tiles, in one line. Whether all were right.
 fn random_tiles(rt: &HostRuntime) -> Result<bool, Fault> {
-    match random::run(rt.alloc(), TILES) {
-        Ok(()) => {
-            println!(rt; "{TILES} random tiles under labels: all stages equal, all pictures back")?;
-            Ok(true)
-        }
-        Err(why) => {
-            println!(rt; "random tiles under labels: {why}")?;
-            Ok(false)
-        }
-    }
+    report(
+        rt,
+        random::run(rt.alloc(), TILES),
+        format_args!("{TILES} random tiles under labels: all stages equal, all pictures back"),
+        "random tiles under labels",
+    )
 }
 
 // The random scripts, in one line. Whether all were right.
 fn random_scripts(rt: &HostRuntime) -> Result<bool, Fault> {
     let mut tally = Tally::default();
-    match scripts::run(rt.alloc(), SCRIPTS, &mut tally) {
-        Ok(()) => {
-            println!(rt;
-                "{SCRIPTS} random scripts: every answer, stage, state and plane as the reference tile's ({tally})"
-            )?;
-            Ok(true)
-        }
-        Err(why) => {
-            let n = tally.scripts;
-            println!(rt; "random scripts, after {n} that were right: {why}")?;
-            Ok(false)
-        }
-    }
+    let outcome = scripts::run(rt.alloc(), SCRIPTS, &mut tally);
+    let n = tally.scripts;
+    report(
+        rt,
+        outcome,
+        format_args!(
+            "{SCRIPTS} random scripts: every answer, stage, state and plane as the reference tile's ({tally})"
+        ),
+        format_args!("random scripts, after {n} that were right"),
+    )
 }
 
 fn main(rt: HostRuntime) -> Result<(), Fault> {
-    let vectors_right = vectors(&rt)?;
-    let random_right = random_tiles(&rt)?;
-    let scripts_right = random_scripts(&rt)?;
-    if vectors_right && random_right && scripts_right {
-        Ok(())
-    } else {
-        Err(Fault::Failed)
-    }
+    let right = vectors(&rt)? & random_tiles(&rt)? & random_scripts(&rt)?;
+    if right { Ok(()) } else { Err(Fault::Failed) }
 }

@@ -1,204 +1,166 @@
-// The mean step's transform again, written plainly and apart from the crates under test. A stage copies out each line, cuts it at
-// the breaks into pieces, extends each piece by mirroring it at its two ends, lifts it, and puts it back.
-use crate::fault::Fault;
+// The mean step's transform again, written plainly and apart from the crates under test. A stage takes each line, cuts it at the
+// breaks into pieces, extends each piece by mirroring it at its two ends, lifts it, and puts it back.
+// This text stands in both test programs: it is there to be compared, and a library would have to promise its values.
 use geometry::corners::Corners;
-use std::alloc::Global;
+use std::alloc::{AllocError, Global};
+use std::ops::Range;
 
-// A line of points of one resolution: the coordinate of its first point, and where each point's sample stands in the plane.
-#[derive(Drop)]
-struct Line {
-    first: u32,
-    places: Vec<usize>,
-}
-
-// How many points a piece is extended by at each end.
+// How many points a piece is extended by at each end: each of the two steps of lifting leaves out the two outermost.
 const MARGIN: usize = 2;
 
-// The sample at a place; 0 past the end.
-pub fn at(plane: &[i32], k: usize) -> i32 {
-    if k < plane.len() { plane[k] } else { 0 }
+// A point of a line: whether its coordinate in its resolution is odd, and a value that goes with it, which is its finest
+// coordinate, the place of its sample in the plane, or the sample.
+#[derive(Clone, Copy)]
+struct Point<T> {
+    odd: bool,
+    value: T,
+}
+
+impl<T> Point<T> {
+    // The point with another value.
+    fn with<U>(&self, value: U) -> Point<U> {
+        Point {
+            odd: self.odd,
+            value,
+        }
+    }
 }
 
 // Half the sum of two numbers, rounded down.
 fn half(a: i32, b: i32) -> i32 {
-    let sum = i64::from(a).wrapping_add(i64::from(b));
-    i32::try_from(sum.div_euclid(2)).unwrap_or(0)
+    (i64::from(a) + i64::from(b)).div_euclid(2) as i32
 }
 
 // A quarter of the sum of two numbers and 2, rounded down.
 fn quarter(a: i32, b: i32) -> i32 {
-    let sum = i64::from(a).wrapping_add(i64::from(b)).wrapping_add(2);
-    i32::try_from(sum.div_euclid(4)).unwrap_or(0)
+    (i64::from(a) + i64::from(b) + 2).div_euclid(4) as i32
 }
 
-// The finest coordinates from `start` to before `end` that a resolution has, whose points are `apart` from each other.
-fn coordinates(heap: Global, start: u32, end: u32, apart: u32) -> Result<Vec<u32>, Fault> {
-    let mut all = Vec::new(heap);
-    for t in start..end {
-        if t.checked_rem(apart) == Some(0) {
-            all.push(t)?;
-        }
-    }
-    Ok(all)
-}
-
-// Where the finest point (x, y) has its sample.
-pub fn place(c: &Corners, x: u32, y: u32) -> usize {
-    let width = c.x1.wrapping_sub(c.x0) as usize;
-    let down = y.wrapping_sub(c.y0) as usize;
-    down.wrapping_mul(width)
-        .wrapping_add(x.wrapping_sub(c.x0) as usize)
-}
-
-// The coordinate in its resolution of the first of some finest coordinates.
-fn first_of(finest: &[u32], apart: u32) -> u32 {
-    finest
-        .first()
-        .copied()
-        .unwrap_or(0)
-        .checked_div(apart)
-        .unwrap_or(0)
-}
-
-fn column(heap: Global, c: &Corners, x: u32, apart: u32) -> Result<Line, Fault> {
-    let finest = coordinates(heap, c.y0, c.y1, apart)?;
-    let mut places = Vec::new(heap);
-    for y in finest.iter() {
-        places.push(place(c, x, *y))?;
-    }
-    Ok(Line {
-        first: first_of(finest.as_slice(), apart),
-        places,
-    })
-}
-
-fn row(heap: Global, c: &Corners, y: u32, apart: u32) -> Result<Line, Fault> {
-    let finest = coordinates(heap, c.x0, c.x1, apart)?;
-    let mut places = Vec::new(heap);
-    for x in finest.iter() {
-        places.push(place(c, *x, y))?;
-    }
-    Ok(Line {
-        first: first_of(finest.as_slice(), apart),
-        places,
-    })
-}
-
-// The index that stands for index k of the extension of a piece of n points, n at least 2. The extension begins MARGIN points
-// before the piece and mirrors it at its first and last point without repeating them.
-fn mirror(k: usize, n: usize) -> usize {
-    let last = n.wrapping_sub(1);
-    let period = last.wrapping_mul(2);
-    let shifted = k
-        .wrapping_add(period.wrapping_mul(MARGIN))
-        .wrapping_sub(MARGIN);
-    let m = shifted.checked_rem(period).unwrap_or(0);
-    if m <= last { m } else { period.wrapping_sub(m) }
-}
-
-fn extended(heap: Global, piece: &[i32]) -> Result<Vec<i32>, Fault> {
-    let n = piece.len();
-    let mut all = Vec::new(heap);
-    for k in 0..n.wrapping_add(2 * MARGIN) {
-        all.push(at(piece, mirror(k, n)))?;
-    }
-    Ok(all)
-}
-
-// Of the extension `all`, whose first point has the coordinate `first`: every odd point with a point at both sides takes half
-// the sum of these, rounded down.
-fn lift_odd(all: &mut [i32], first: u32) {
-    for k in 1..all.len().saturating_sub(1) {
-        if first as usize % 2 != k % 2 {
-            all[k] = all[k].wrapping_sub(half(all[k - 1], all[k + 1]));
-        }
-    }
-}
-
-// Every even point that has such odd points at both sides takes on a quarter of their sum and 2, rounded down.
-fn lift_even(all: &mut [i32], first: u32) {
-    for k in 2..all.len().saturating_sub(2) {
-        if first as usize % 2 == k % 2 {
-            all[k] = all[k].wrapping_add(quarter(all[k - 1], all[k + 1]));
-        }
-    }
-}
-
-// What a piece becomes whose first point has the coordinate `first`. A piece of one point stays as it is.
-fn lift_piece(heap: Global, piece: &mut [i32], first: u32) -> Result<(), Fault> {
-    if piece.len() < 2 {
-        return Ok(());
-    }
-    let mut all = extended(heap, piece)?;
-    // MARGIN is even, so that the extension's first point has the parity of the piece's
-    lift_odd(all.as_mut_slice(), first);
-    lift_even(all.as_mut_slice(), first);
-    for k in 0..piece.len() {
-        piece[k] = at(all.as_slice(), k.wrapping_add(MARGIN));
-    }
-    Ok(())
-}
-
-// The points of a line from `start` to before `end`, none of which a break parts.
-fn lift_part(
+// The transform of the planes of a frame under the labels of its finest points.
+#[derive(Clone, Copy)]
+pub struct Plain<'a> {
     heap: Global,
-    line: &Line,
-    start: usize,
-    end: usize,
-    plane: &mut [i32],
-) -> Result<(), Fault> {
-    let mut piece = Vec::new(heap);
-    for k in start..end {
-        piece.push(at(plane, line.places.get(k).copied().unwrap_or(0)))?;
-    }
-    // lifting asks only for the parity of the first point's coordinate
-    let first = line.first.wrapping_add((start % 2) as u32);
-    lift_piece(heap, piece.as_mut_slice(), first)?;
-    for k in start..end {
-        let here = line.places.get(k).copied().unwrap_or(0);
-        if here < plane.len() {
-            plane[here] = at(piece.as_slice(), k.wrapping_sub(start));
+    frame: Corners,
+    labels: &'a [u16],
+}
+
+impl<'a> Plain<'a> {
+    pub fn new(heap: Global, frame: Corners, labels: &'a [u16]) -> Plain<'a> {
+        Plain {
+            heap,
+            frame,
+            labels,
         }
     }
-    Ok(())
-}
 
-// Whether a break parts point k of a line from the point before it: they have different labels.
-fn parted(line: &Line, labels: &[u16], k: usize) -> bool {
-    let here = line.places.get(k).copied().unwrap_or(0);
-    let before = line.places.get(k.wrapping_sub(1)).copied().unwrap_or(0);
-    labels.get(here).copied() != labels.get(before).copied()
-}
+    // Where the finest point (x, y) has its sample.
+    pub fn place(&self, x: u32, y: u32) -> usize {
+        let Corners { x0, y0, x1, .. } = self.frame;
+        let width = x1.abs_diff(x0) as usize;
+        y.abs_diff(y0) as usize * width + x.abs_diff(x0) as usize
+    }
 
-fn lift_line(heap: Global, line: &Line, labels: &[u16], plane: &mut [i32]) -> Result<(), Fault> {
-    let mut start = 0;
-    for k in 1..line.places.len() {
-        if parted(line, labels, k) {
-            lift_part(heap, line, start, k, plane)?;
-            start = k;
+    // The finest coordinates of a range that a resolution has, whose points are `apart` from each other. Every other one of them
+    // is odd in the resolution, and the next coarser resolution lacks it.
+    fn coordinates(&self, finest: Range<u32>, apart: u32) -> Result<Vec<Point<u32>>, AllocError> {
+        finest
+            .filter(|t| t.is_multiple_of(apart))
+            .map(|t| Point {
+                odd: !t.is_multiple_of(apart.saturating_mul(2)),
+                value: t,
+            })
+            .collect(self.heap)
+    }
+
+    // A piece of at least two points with MARGIN points more at each end: it goes there and back over and over, each time turning
+    // at its first and its last point without repeating them.
+    fn extended(&self, piece: &[Point<i32>]) -> Result<Vec<Point<i32>>, AllocError> {
+        let [_, inner @ .., _] = piece else {
+            return piece.to_vec(self.heap);
+        };
+        let period = piece.len() + inner.len();
+        piece
+            .iter()
+            .chain(inner.iter().rev())
+            .cycle()
+            .skip(period - MARGIN)
+            .take(piece.len() + 2 * MARGIN)
+            .copied()
+            .collect(self.heap)
+    }
+
+    // The points but the first and the last after a step of lifting: those of one parity become what the step makes of them and
+    // their two neighbours.
+    fn lifted<F: Fn(i32, i32, i32) -> i32>(
+        &self,
+        points: &[Point<i32>],
+        odd: bool,
+        step: F,
+    ) -> Result<Vec<Point<i32>>, AllocError>
+        requires { F.IsAlwaysCallable step }
+    {
+        points
+            .array_windows::<3>()
+            .map(|[before, own, after]| {
+                if own.odd == odd {
+                    own.with(step(own.value, before.value, after.value))
+                } else {
+                    *own
+                }
+            })
+            .collect(self.heap)
+    }
+
+    // Lifts the points with these places, none of which a break parts.
+    fn lift_piece(&self, places: &[Point<usize>], plane: &mut [i32]) -> Result<(), AllocError> {
+        let samples: Vec<Point<i32>> = places
+            .iter()
+            .filter_map(|point| plane.get(point.value).map(|sample| point.with(*sample)))
+            .collect(self.heap)?;
+        let whole = self.extended(samples.as_slice())?;
+        let predicted = self.lifted(whole.as_slice(), true, |own, before, after| {
+            own.wrapping_sub(half(before, after))
+        })?;
+        let updated = self.lifted(predicted.as_slice(), false, |own, before, after| {
+            own.wrapping_add(quarter(before, after))
+        })?;
+        for (point, sample) in places.iter().zip(updated.iter()) {
+            if let Some(own) = plane.get_mut(point.value) {
+                *own = sample.value;
+            }
         }
+        Ok(())
     }
-    lift_part(heap, line, start, line.places.len(), plane)
-}
 
-// Stage `stage` down: each column of its resolution, then each row.
-pub fn stage_down(
-    heap: Global,
-    c: &Corners,
-    stage: u32,
-    labels: &[u16],
-    plane: &mut [i32],
-) -> Result<(), Fault> {
-    let apart = 1u32
-        .checked_shl(c.levels.saturating_sub(stage))
-        .unwrap_or(1);
-    let columns = coordinates(heap, c.x0, c.x1, apart)?;
-    let rows = coordinates(heap, c.y0, c.y1, apart)?;
-    for x in columns.iter() {
-        lift_line(heap, &column(heap, c, *x, apart)?, labels, plane)?;
+    // Lifts the points of a line, in pieces: a break parts neighbours with different labels. A piece of one point stays as it is.
+    fn lift_line(&self, places: &[Point<usize>], plane: &mut [i32]) -> Result<(), AllocError> {
+        let pieces = places.chunk_by(|a, b| self.labels.get(a.value) == self.labels.get(b.value));
+        for piece in pieces.filter(|piece| piece.len() > 1) {
+            self.lift_piece(piece, plane)?;
+        }
+        Ok(())
     }
-    for y in rows.iter() {
-        lift_line(heap, &row(heap, c, *y, apart)?, labels, plane)?;
+
+    // Stage `stage` down: each column of its resolution, then each row.
+    pub fn stage_down(&self, stage: u32, plane: &mut [i32]) -> Result<(), AllocError> {
+        let c = self.frame;
+        let apart = 2u32.saturating_pow(c.levels.saturating_sub(stage));
+        let xs = self.coordinates(c.x0..c.x1, apart)?;
+        let ys = self.coordinates(c.y0..c.y1, apart)?;
+        for x in xs.iter() {
+            let column: Vec<Point<usize>> = ys
+                .iter()
+                .map(|y| y.with(self.place(x.value, y.value)))
+                .collect(self.heap)?;
+            self.lift_line(column.as_slice(), plane)?;
+        }
+        for y in ys.iter() {
+            let row: Vec<Point<usize>> = xs
+                .iter()
+                .map(|x| x.with(self.place(x.value, y.value)))
+                .collect(self.heap)?;
+            self.lift_line(row.as_slice(), plane)?;
+        }
+        Ok(())
     }
-    Ok(())
 }

@@ -1,14 +1,13 @@
 // A tile as its definition has it: a picture, a stage and a state. It has no plane: its plane is the picture's transform to its
 // stage, computed anew from the picture by the plain implementation of a stage down. Going up is therefore one stage less down.
-use crate::fault::Fault;
-use crate::plain;
+use crate::plain::Plain;
 use crate::told::{Answer, Told};
 use geometry::corners::Corners;
 use geometry::point::Point;
-use std::alloc::Global;
+use std::alloc::AllocError;
 use tiles::{Call, State};
 
-#[derive(Drop)]
+#[derive(Clone, Drop)]
 pub struct Reference {
     frame: Corners,
     // the frame of the source and its labels. The stages are worked only where the two frames are the same
@@ -50,8 +49,7 @@ impl Reference {
     }
 
     pub fn frame(&self) -> Corners {
-        let frame = self.frame;
-        frame
+        self.frame
     }
 
     pub fn state(&self) -> State {
@@ -62,28 +60,17 @@ impl Reference {
         self.labels.as_slice()
     }
 
-    pub fn copy(&self) -> Result<Reference, Fault> {
-        Ok(Reference {
-            frame: self.frame,
-            home: self.home,
-            labels: self.labels.clone()?,
-            picture: self.picture.clone()?,
-            stage: self.stage,
-            state: self.state,
-        })
+    fn plain(&self) -> Plain<'_> {
+        Plain::new(*self.labels.allocator(), self.frame, self.labels.as_slice())
     }
 
     // The stages from the highest to the one above its own, down.
-    pub fn plane(&self, heap: Global) -> Result<Vec<i32>, Fault> {
+    pub fn plane(&self) -> Result<Vec<i32>, AllocError> {
+        let plain = self.plain();
         let mut plane = self.picture.clone()?;
-        for stage in (self.stage.wrapping_add(1)..=self.frame.levels).rev() {
-            plain::stage_down(
-                heap,
-                &self.frame,
-                stage,
-                self.labels.as_slice(),
-                plane.as_mut_slice(),
-            )?;
+        let stages = (1..=self.frame.levels).rev();
+        for stage in stages.take_while(|stage| *stage > self.stage) {
+            plain.stage_down(stage, plane.as_mut_slice())?;
         }
         Ok(plane)
     }
@@ -98,57 +85,50 @@ impl Reference {
     }
 
     fn is_outside(&self, p: Point) -> bool {
-        p.x < self.frame.x0 || p.x >= self.frame.x1 || p.y < self.frame.y0 || p.y >= self.frame.y1
+        let Corners { x0, y0, x1, y1, .. } = self.frame;
+        !(x0..x1).contains(&p.x) || !(y0..y1).contains(&p.y)
     }
 
     // Whether the source has another frame.
     fn is_elsewhere(&self) -> bool {
-        let (a, b) = (self.frame, self.home);
-        (a.x0, a.y0, a.x1, a.y1, a.levels) != (b.x0, b.y0, b.x1, b.y1, b.levels)
+        self.frame != self.home
     }
 
-    // The number of a call's refusal, if it has one: the first of 9, 10 and 11 that applies.
+    // The number of a call's refusal, if it has one: the first of 9, 10 and 11 that applies. They are the rules' own numbers, and not
+    // the crates' refusals, so that the numbers are compared too.
     pub fn refusal(&self, call: Call<i32>) -> Option<u32> {
         let at_top = self.stage == self.frame.levels;
-        let (outside, no_stage, elsewhere) = match call {
-            Call::Put(p, _) | Call::Read(p) => (self.is_outside(p), false, false),
-            Call::Begin => (false, false, false),
-            Call::Down => (false, self.stage == 0, self.is_elsewhere()),
-            Call::Up => (false, at_top, self.is_elsewhere()),
-            Call::Finish => (false, !at_top, false),
-        };
-        if outside {
-            Some(9)
-        } else if no_stage {
-            Some(10)
-        } else if elsewhere {
-            Some(11)
-        } else {
-            None
+        let elsewhere = self.is_elsewhere().then_some(11);
+        match call {
+            Call::Put(p, _) | Call::Read(p) => self.is_outside(p).then_some(9),
+            Call::Begin => None,
+            Call::Down => (self.stage == 0).then_some(10).or(elsewhere),
+            Call::Up => at_top.then_some(10).or(elsewhere),
+            Call::Finish => (!at_top).then_some(10),
         }
     }
 
     fn put(&mut self, p: Point, v: i32) {
-        let k = plain::place(&self.frame, p.x, p.y);
-        if k < self.picture.len() {
-            self.picture[k] = v;
+        let place = self.plain().place(p.x, p.y);
+        if let Some(sample) = self.picture.get_mut(place) {
+            *sample = v;
         }
     }
 
-    fn read(&self, heap: Global, p: Point) -> Result<i32, Fault> {
-        let plane = self.plane(heap)?;
-        let k = plain::place(&self.frame, p.x, p.y);
-        Ok(plain::at(plane.as_slice(), k))
+    // The sample of a point of the frame.
+    fn read(&self, p: Point) -> Result<i32, AllocError> {
+        let place = self.plain().place(p.x, p.y);
+        Ok(self.plane()?.get(place).copied().unwrap_or(0))
     }
 
     // What it answers to a call that its state allows. Refused, it stays as it was.
-    fn answer(&mut self, heap: Global, call: Call<i32>) -> Result<Answer, Fault> {
+    fn answer(&mut self, call: Call<i32>) -> Result<Answer, AllocError> {
         if let Some(number) = self.refusal(call) {
             return Ok(Answer::Refused(number));
         }
         match call {
             Call::Put(p, v) => self.put(p, v),
-            Call::Read(p) => return Ok(Answer::Sample(self.read(heap, p)?)),
+            Call::Read(p) => return Ok(Answer::Sample(self.read(p)?)),
             Call::Begin => self.state = State::Bands,
             Call::Down => self.stage = self.stage.wrapping_sub(1),
             Call::Up => self.stage = self.stage.wrapping_add(1),
@@ -158,18 +138,18 @@ impl Reference {
     }
 
     // Makes a call; nothing, if its state does not allow it.
-    pub fn make(&mut self, heap: Global, call: Call<i32>) -> Result<Option<Moment>, Fault> {
+    pub fn make(&mut self, call: Call<i32>) -> Result<Option<Moment>, AllocError> {
         if !self.allows(call) {
             return Ok(None);
         }
         let told = Told {
-            answer: self.answer(heap, call)?,
+            answer: self.answer(call)?,
             stage: self.stage,
             state: self.state,
         };
         Ok(Some(Moment {
             told,
-            plane: self.plane(heap)?,
+            plane: self.plane()?,
         }))
     }
 }

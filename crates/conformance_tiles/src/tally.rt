@@ -29,41 +29,42 @@ pub struct Tally {
     stopped: u32,
 }
 
-// One more of something.
-fn add(count: &mut u32) {
-    *count = count.wrapping_add(1);
-}
-
 impl Accepted {
-    fn count(&mut self, call: Call<i32>) {
+    // The count of such calls.
+    fn count(&mut self, call: Call<i32>) -> &mut u32 {
         match call {
-            Call::Put(_, _) => add(&mut self.put),
-            Call::Read(_) => add(&mut self.read),
-            Call::Begin => add(&mut self.begin),
-            Call::Down => add(&mut self.down),
-            Call::Up => add(&mut self.up),
-            Call::Finish => add(&mut self.finish),
+            Call::Put(_, _) => &mut self.put,
+            Call::Read(_) => &mut self.read,
+            Call::Begin => &mut self.begin,
+            Call::Down => &mut self.down,
+            Call::Up => &mut self.up,
+            Call::Finish => &mut self.finish,
         }
     }
 }
 
 impl Tally {
-    pub fn count_call(&mut self, call: Call<i32>, answer: Answer) {
-        add(&mut self.calls);
+    // The count of calls with such an answer.
+    fn count(&mut self, call: Call<i32>, answer: Answer) -> Option<&mut u32> {
         match answer {
-            Answer::Accepted | Answer::Sample(_) => self.accepted.count(call),
-            Answer::Refused(9) => add(&mut self.with_9),
-            Answer::Refused(10) => add(&mut self.with_10),
-            Answer::Refused(11) => add(&mut self.with_11),
-            Answer::Refused(_) => {}
+            Answer::Accepted | Answer::Sample(_) => Some(self.accepted.count(call)),
+            Answer::Refused(9) => Some(&mut self.with_9),
+            Answer::Refused(10) => Some(&mut self.with_10),
+            Answer::Refused(11) => Some(&mut self.with_11),
+            Answer::Refused(_) => None,
+        }
+    }
+
+    pub fn count_call(&mut self, call: Call<i32>, answer: Answer) {
+        self.calls = self.calls.saturating_add(1);
+        if let Some(count) = self.count(call, answer) {
+            *count = count.saturating_add(1);
         }
     }
 
     pub fn count_script(&mut self, stopped: bool) {
-        add(&mut self.scripts);
-        if stopped {
-            add(&mut self.stopped);
-        }
+        self.scripts = self.scripts.saturating_add(1);
+        self.stopped = self.stopped.saturating_add(u32::from(stopped));
     }
 }
 

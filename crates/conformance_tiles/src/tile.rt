@@ -5,7 +5,7 @@ use breaks::labels::LabelMap;
 use geometry::frame::Frame;
 use geometry::refusal::Refusal;
 use samples::MeanStep;
-use tiles::{Bands, Call, Picture, State};
+use tiles::{Bands, Call, Picture, Reply, State};
 
 #[derive(Drop)]
 pub enum Tile {
@@ -13,37 +13,18 @@ pub enum Tile {
     Bands(Bands),
 }
 
-fn plainly(answer: Result<(), Refusal>) -> Answer {
-    match answer {
-        Ok(()) => Answer::Accepted,
-        Err(why) => Answer::Refused(why.number()),
-    }
-}
-
-fn telling(answer: Result<i32, Refusal>) -> Answer {
-    match answer {
-        Ok(v) => Answer::Sample(v),
-        Err(why) => Answer::Refused(why.number()),
-    }
-}
-
 fn on_picture(
     picture: Picture,
     plane: &mut [i32],
     call: Call<i32>,
 ) -> Result<(Tile, Answer), Fault> {
-    match call {
-        Call::Put(at, v) => {
-            let answer = plainly(picture.put(plane, at, v));
-            Ok((Tile::Picture(picture), answer))
-        }
-        Call::Read(at) => {
-            let answer = telling(picture.read(plane, at));
-            Ok((Tile::Picture(picture), answer))
-        }
-        Call::Begin => Ok((Tile::Bands(picture.begin()), Answer::Accepted)),
-        _ => Err(Fault::NotAllowed),
-    }
+    let reply: Reply<i32> = match call {
+        Call::Put(at, v) => picture.put(plane, at, v).map(|()| None),
+        Call::Read(at) => picture.read(plane, at).map(Some),
+        Call::Begin => return Ok((Tile::Bands(picture.begin()), Answer::Accepted)),
+        _ => return Err(Fault::NotAllowed),
+    };
+    Ok((Tile::Picture(picture), Answer::from(reply)))
 }
 
 fn finished(bands: Bands) -> (Tile, Answer) {
@@ -59,45 +40,34 @@ fn on_bands(
     source: &LabelMap<'_>,
     call: Call<i32>,
 ) -> Result<(Tile, Answer), Fault> {
-    match call {
-        Call::Read(at) => {
-            let answer = telling(bands.read(plane, at));
-            Ok((Tile::Bands(bands), answer))
-        }
-        Call::Down => {
-            let answer = plainly(bands.down(plane, &MeanStep, source));
-            Ok((Tile::Bands(bands), answer))
-        }
-        Call::Up => {
-            let answer = plainly(bands.up(plane, &MeanStep, source));
-            Ok((Tile::Bands(bands), answer))
-        }
-        Call::Finish => Ok(finished(bands)),
-        _ => Err(Fault::NotAllowed),
-    }
+    let reply: Reply<i32> = match call {
+        Call::Read(at) => bands.read(plane, at).map(Some),
+        Call::Down => bands.down(plane, &MeanStep, source).map(|()| None),
+        Call::Up => bands.up(plane, &MeanStep, source).map(|()| None),
+        Call::Finish => return Ok(finished(bands)),
+        _ => return Err(Fault::NotAllowed),
+    };
+    Ok((Tile::Bands(bands), Answer::from(reply)))
 }
 
 impl Tile {
     pub fn open(frame: Frame, state: State, plane: &[i32]) -> Result<Tile, Refusal> {
         match state {
-            State::Picture => Ok(Tile::Picture(Picture::open(frame, plane)?)),
-            State::Bands => Ok(Tile::Bands(Bands::open(frame, plane)?)),
+            State::Picture => Picture::open(frame, plane).map(Tile::Picture),
+            State::Bands => Bands::open(frame, plane).map(Tile::Bands),
         }
     }
 
     // What is told where the tile has given this answer.
     pub fn told(&self, answer: Answer) -> Told {
-        match self {
-            Tile::Picture(picture) => Told {
-                answer,
-                stage: picture.stage(),
-                state: State::Picture,
-            },
-            Tile::Bands(bands) => Told {
-                answer,
-                stage: bands.stage(),
-                state: State::Bands,
-            },
+        let (stage, state) = match self {
+            Tile::Picture(picture) => (picture.stage(), State::Picture),
+            Tile::Bands(bands) => (bands.stage(), State::Bands),
+        };
+        Told {
+            answer,
+            stage,
+            state,
         }
     }
 

@@ -1,6 +1,7 @@
 // What a tile tells of a call.
 use tiles::{Event, Reply, State};
 
+// Where two answers differ, they are printed by these names.
 #[derive(Clone, Copy, PartialEq, Eq, Debug)]
 pub enum Answer {
     Accepted,
@@ -17,20 +18,20 @@ pub struct Told {
     pub state: State,
 }
 
-impl Answer {
-    pub fn of(reply: Reply<i32>) -> Answer {
+impl From<Reply<i32>> for Answer {
+    fn from(reply: Reply<i32>) -> Answer {
         match reply {
-            Reply::Accepted => Answer::Accepted,
-            Reply::Sample(v) => Answer::Sample(v),
-            Reply::Refused(why) => Answer::Refused(why.number()),
+            Ok(None) => Answer::Accepted,
+            Ok(Some(sample)) => Answer::Sample(sample),
+            Err(why) => Answer::Refused(why.number()),
         }
     }
 }
 
-impl Told {
-    pub fn of(event: Event<i32>) -> Told {
+impl From<Event<i32>> for Told {
+    fn from(event: Event<i32>) -> Told {
         Told {
-            answer: Answer::of(event.reply),
+            answer: Answer::from(event.reply),
             stage: event.stage,
             state: event.state,
         }

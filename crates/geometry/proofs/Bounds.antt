@@ -1,19 +1,15 @@
 -- What a frame's bounds say of its numbers and of its resolutions. Assumes nothing.
-use Rattle.std.proofs.Common.{◌≡◌, ℕ, ◌+◌, ◌*◌, ◌<◌, ◌≤◌, Bool, true, false, cond, not, ◌&&◌, leb, refl, ap, ◌∙◌, arith}
+use Rattle.std.proofs.Common.{◌≡◌, ℕ, ◌+◌, ◌*◌, ◌<◌, ◌≤◌, true, leb, ap, ◌∙◌, arith}
 use Rattle.std.proofs.lemmas.Bool.Decides.{nat_tests}
 use Rattle.geometry.specs.declared.corners.Corners.{Corners}
 use Rattle.geometry.specs.declared.direction.Direction.{Direction}
 use Rattle.geometry.specs.declared.direction.Direction.TheVariants.{Row, Column}
 use Rattle.geometry.specs.declared.frame.Frame.{Frame}
-use Rattle.std.proofs.lemmas.Bool.{cond-true, le-leb, leb-true, and_parts, and_from, and_left}
+use Rattle.std.proofs.lemmas.Bool.{cond-true, le-leb}
 use Rattle.geometry.specs.declared.gap.Gap.{Gap}
-use Rattle.geometry.specs.Frames.{apart, start, stop, low, high, next, is_frame, is_point, is_gap, corners_of, resolution_of, frame_answer, empty_side, too_large, too_many_levels}
-use Rattle.geometry.specs.Refusals.{Answer, accepted, refused}
+use Rattle.geometry.specs.Frames.{apart, start, stop, low, high, next, is_frame, is_gap, corners_of, resolution_of}
 use Rattle.geometry.proofs.Ceilings.{ceil_mono, ceil_near, ceil_small, ceil_over}
-use Rattle.geometry.proofs.Points.{apart_pos, IsPoint, point_parts, point_from}
-
-pub is_framed : (f : Frame) → is_frame (corners_of f) ≡ true
-is_framed f = grind (arith, nat_tests)
+use Rattle.geometry.proofs.Points.{apart_pos, IsPoint, point_parts}
 
 -- the bounds of numbers that are a frame's
 pub record Framed (c : Corners) : Type 0 where
@@ -95,25 +91,9 @@ pub record IsGap (c : Corners) (g : Gap) : Type 0 where
 
 pub gap_parts : (c : Corners) (g : Gap) → is_gap c g ≡ true → IsGap c g
 gap_parts c g e =
-    let a = and_parts (is_frame c) (leb 1 g.resolution && (is_point c g.resolution g.from && is_point c g.resolution (next g.direction g.from))) e in
-    let b = and_parts (leb 1 g.resolution) (is_point c g.resolution g.from && is_point c g.resolution (next g.direction g.from)) a.1 in
-    let p = and_parts (is_point c g.resolution g.from) (is_point c g.resolution (next g.direction g.from)) b.1 in
-    record { framed = framed c a.0; some = leb-true 1 g.resolution b.0; from = point_parts c g.resolution g.from p.0; to = point_parts c g.resolution (next g.direction g.from) p.1 }
-
-pub gap_from_parts : (c : Corners) (g : Gap) → is_frame c ≡ true → 1 ≤ g.resolution → IsPoint c g.resolution g.from → IsPoint c g.resolution (next g.direction g.from) → is_gap c g ≡ true
-gap_from_parts c g f h p q =
-    and_from (is_frame c) _ f (and_from (leb 1 g.resolution) _ (le-leb 1 g.resolution h)
-    (and_from (is_point c g.resolution g.from) _ (point_from c g.resolution g.from p) (point_from c g.resolution (next g.direction g.from) q)))
-
--- numbers that are refused are no frame's, and have no gaps
-pub refused_frame : (c : Corners) (n : ℕ) → refused n ≡ frame_answer c → is_frame c ≡ false
-refused_frame c n e = go (empty_side c) (too_large c) (too_many_levels c) e
-  where
-    go : (a b d : Bool) → ◌≡◌ {A = Answer Corners} (refused n) (cond a (refused 1) (cond b (refused 2) (cond d (refused 3) (accepted c)))) → (not a && (not b && not d)) ≡ false
-    go true b d h = refl
-    go false true d h = refl
-    go false false true h = refl
-    go false false false h = absurd (let z : ◌≡◌ {A = ℕ} 0 1 = cc in omega arith)
-
-pub unframed : (c : Corners) (g : Gap) → is_frame c ≡ false → is_gap c g ≡ false
-unframed c g e = and_left (is_frame c) _ e
+    record {
+      framed = framed c (grind (arith, nat_tests));
+      some = grind (arith, nat_tests);
+      from = point_parts c g.resolution g.from (grind (arith, nat_tests));
+      to = point_parts c g.resolution (next g.direction g.from) (grind (arith, nat_tests));
+    }

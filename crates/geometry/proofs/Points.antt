@@ -2,11 +2,12 @@
 use Rattle.std.proofs.Common.{◌≡◌, ℕ, zero, suc, ◌+◌, ◌-◌, ◌*◌, ◌/◌, ◌%◌, ◌<◌, ◌≤◌, Bool, true, false, cond, ◌&&◌, eqb, ltb, leb, Some, None, Option, sym, refl, ap, ◌∙◌, subst, ap₂, mod-lt, mul_comm, div-lt_iff_lt-mul, mul-zero, mul-div_cancel, arith, pow_pos}
 use native.Mathlib.Nat.{mul-mod_left, div-add-mod}
 use lib.Arith.{digits_div, digits_mod, digits_lt}
-use Rattle.std.proofs.lemmas.Bool.{and_parts, and_from, eqb-true, eq-eqb, ltb-true, lt-ltb, leb-true, le-leb, le-ltb, cond-true, cond-false}
+use Rattle.std.proofs.lemmas.Bool.Decides.{nat_tests}
+use Rattle.std.proofs.lemmas.Bool.{ltb-true, lt-ltb, le-ltb, cond-true, cond-false}
 use Rattle.geometry.specs.declared.corners.Corners.{Corners}
 use Rattle.geometry.specs.declared.direction.Direction.TheVariants.{Row, Column}
 use Rattle.geometry.specs.declared.point.Point.{Point}
-use Rattle.geometry.specs.Frames.{width, height, apart, low, high, between, is_point}
+use Rattle.geometry.specs.Frames.{width, height, apart, low, high, is_point}
 use Rattle.geometry.specs.Places.{inside, plane_length, place, point_at, Places, finest, spot, coarse, point_of, Spots}
 use Rattle.geometry.proofs.Ceilings.{ceil_le, le_ceil, ceil_lt, lt_ceil, whole}
 
@@ -17,12 +18,6 @@ apart_pos c r = pow_pos _
 pub cond_some : {X : Type 0} (b : Bool) (x p : X) → cond b (Some x) None ≡ Some p → (b ≡ true) × (x ≡ p)
 cond_some true x p e = (refl, cc)
 cond_some false x p e = absurd (let z : ◌≡◌ {A = ℕ} 0 1 = cc in omega arith)
-
-pub between_parts : (a t b : ℕ) → between a t b ≡ true → (a ≤ t) × (t < b)
-between_parts a t b e = let s = and_parts (leb a t) (ltb t b) e in (leb-true a t s.0, ltb-true t b s.1)
-
-pub between_from : (a t b : ℕ) → a ≤ t → t < b → between a t b ≡ true
-between_from a t b h l = and_from (leb a t) (ltb t b) (le-leb a t h) (lt-ltb t b l)
 
 -- a finest point of the frame, by its coordinates
 pub record Inside (c : Corners) (p : Point) : Type 0 where
@@ -41,27 +36,16 @@ pub record IsPoint (c : Corners) (r : ℕ) (p : Point) : Type 0 where
 
 module _ (c : Corners) where
   pub inside_parts : (p : Point) → inside c p ≡ true → Inside c p
-  inside_parts p e =
-      let s = and_parts (between c.x0 p.x c.x1) (between c.y0 p.y c.y1) e in
-      let a = between_parts c.x0 p.x c.x1 s.0 in
-      let b = between_parts c.y0 p.y c.y1 s.1 in
-      record { left = a.0; right = a.1; top = b.0; bottom = b.1 }
+  inside_parts p e = record { left = grind (arith, nat_tests); right = grind (arith, nat_tests); top = grind (arith, nat_tests); bottom = grind (arith, nat_tests) }
 
   pub inside_from : (p : Point) → Inside c p → inside c p ≡ true
-  inside_from p i = and_from (between c.x0 p.x c.x1) (between c.y0 p.y c.y1) (between_from c.x0 p.x c.x1 i.left i.right) (between_from c.y0 p.y c.y1 i.top i.bottom)
+  inside_from p i = grind (arith, nat_tests)
 
   pub point_parts : (r : ℕ) (p : Point) → is_point c r p ≡ true → IsPoint c r p
-  point_parts r p e =
-      let s = and_parts (leb r c.levels) (between (low c r Row) p.x (high c r Row) && between (low c r Column) p.y (high c r Column)) e in
-      let t = and_parts (between (low c r Row) p.x (high c r Row)) (between (low c r Column) p.y (high c r Column)) s.1 in
-      let a = between_parts (low c r Row) p.x (high c r Row) t.0 in
-      let b = between_parts (low c r Column) p.y (high c r Column) t.1 in
-      record { fine = leb-true r c.levels s.0; left = a.0; right = a.1; top = b.0; bottom = b.1 }
+  point_parts r p e = record { fine = grind (arith, nat_tests); left = grind (arith, nat_tests); right = grind (arith, nat_tests); top = grind (arith, nat_tests); bottom = grind (arith, nat_tests) }
 
   pub point_from : (r : ℕ) (p : Point) → IsPoint c r p → is_point c r p ≡ true
-  point_from r p i =
-      and_from (leb r c.levels) (between (low c r Row) p.x (high c r Row) && between (low c r Column) p.y (high c r Column)) (le-leb r c.levels i.fine)
-      (and_from (between (low c r Row) p.x (high c r Row)) (between (low c r Column) p.y (high c r Column)) (between_from (low c r Row) p.x (high c r Row) i.left i.right) (between_from (low c r Column) p.y (high c r Column) i.top i.bottom))
+  point_from r p i = grind (arith, nat_tests)
 
   -- the place of a finest point
   place_within : (p : Point) → Inside c p → place c p < plane_length c
@@ -154,7 +138,7 @@ module _ (c : Corners) where
       let pos : 0 < n = apart_pos c r in
       let mx : p.x * n % n ≡ 0 = mul-mod_left p.x n in
       let my : p.y * n % n ≡ 0 = mul-mod_left p.y n in
-      cond-true _ _ _ (and_from (leb r c.levels) (eqb (p.x * n % n) 0 && eqb (p.y * n % n) 0) (le-leb r c.levels fine) (and_from (eqb (p.x * n % n) 0) (eqb (p.y * n % n) 0) (eq-eqb (p.x * n % n) 0 mx) (eq-eqb (p.y * n % n) 0 my)))
+      cond-true (leb r c.levels && (eqb (p.x * n % n) 0 && eqb (p.y * n % n) 0)) _ _ (grind (arith, nat_tests))
       ∙ ap₂ (λ (x y : ℕ). Some (record { x = x; y = y })) (mul-div_cancel p.x pos) (mul-div_cancel p.y pos)
 
   pub point_at_spot : (r : ℕ) (p : Point) → IsPoint c r p → point_of c r (spot c r p) ≡ Some p
@@ -170,11 +154,9 @@ module _ (c : Corners) where
       let n = apart c r in
       let pos : 0 < n = apart_pos c r in
       let s = cond_some (leb r c.levels && (eqb (q.x % n) 0 && eqb (q.y % n) 0)) (record { x = q.x / n; y = q.y / n }) p e in
-      let t = and_parts (leb r c.levels) (eqb (q.x % n) 0 && eqb (q.y % n) 0) s.0 in
-      let u = and_parts (eqb (q.x % n) 0) (eqb (q.y % n) 0) t.1 in
-      let ex : q.x ≡ q.x / n * n = whole n pos q.x (eqb-true (q.x % n) 0 u.0) in
-      let ey : q.y ≡ q.y / n * n = whole n pos q.y (eqb-true (q.y % n) 0 u.1) in (
-        leb-true r c.levels t.0,
+      let ex : q.x ≡ q.x / n * n = whole n pos q.x (grind (arith, nat_tests, s.0)) in
+      let ey : q.y ≡ q.y / n * n = whole n pos q.y (grind (arith, nat_tests, s.0)) in (
+        grind (arith, nat_tests, s.0),
         ap₂ (λ (x y : ℕ). record { x = x; y = y }) (ex ∙ ap (λ (w : Point). w.x * n) s.1) (ey ∙ ap (λ (w : Point). w.y * n) s.1),
       )
 

@@ -25,6 +25,7 @@ pub enum Refusal {
 }
 
 impl Refusal {
+    // A match and no discriminants: two refusals with one number are then a fault that the contract finds.
     pub fn number(&self) -> u32
         ensures { result ≡ the_number self.now }
     {
@@ -73,8 +74,6 @@ impl Refusal {
 
 impl fmt::Display for Refusal {
     fn fmt<W: fmt::Write>(&self, f: &mut fmt::Formatter<W>) -> fmt::Result {
-        let number = self.number();
-        let words = self.words();
-        write!(f, "refused {number}: {words}")
+        write!(f, "refused {}: {}", self.number(), self.words())
     }
 }

@@ -2,7 +2,7 @@
 use Rattle.std.proofs.Common.{◌≡◌, ℕ, ◌<◌, ◌≤◌, Bool, true, false, List, length, get_or, set, Some, None, Option, sym, refl, ap, ◌∙◌, subst, ap₂, inl, inr, arith, length-set, get_or-set_other, get_or-set_same}
 use Rattle.std.proofs.lemmas.List.FromFn.{length-map-range_with_len, get_or-map-range_with_len}
 use Rattle.std.proofs.lemmas.List.{get_or_past, ext_get_or}
-use Rattle.std.proofs.lemmas.Bool.{cases_Bool, cases_lt, cases_eq, cond-true, cond-false, both_ways}
+use Rattle.std.proofs.lemmas.Bool.{cases_Bool, cases_lt, both_ways}
 use Rattle.samples.specs.Steps.{EndHeld}
 use Rattle.lifting.specs.Passes.{Pass, end_at, lifted_at, lifted}
 use Rattle.lifting.specs.Runs.{Come}
@@ -33,14 +33,14 @@ module _ {K : Type 0} (z : K) where
 
     pub at_target : (xs : List K) (k : ℕ) → k < length xs → p.target k ≡ true → get_or (lifted z op amount p xs) k z ≡ op (get_or xs k z) (amount (end_at z xs (p.first k)) (end_at z xs (p.second k)))
     unfolding lifted_at
-    at_target xs k h t = lifted_is xs k h ∙ cond-true (p.target k) _ _ t
+    at_target xs k h t = lifted_is xs k h ∙ rw t
 
     past : (xs : List K) (k : ℕ) → length xs ≤ k → get_or (lifted z op amount p xs) k z ≡ get_or xs k z
     past xs k h = get_or_past _ k z (rw length_lifted h) ∙ sym (get_or_past xs k z h)
 
     pub at_other : (xs : List K) (k : ℕ) → p.target k ≡ false → get_or (lifted z op amount p xs) k z ≡ get_or xs k z
     unfolding lifted_at
-    at_other xs k t = elim (cases_lt k (length xs)) [ inl h ↦ lifted_is xs k h ∙ cond-false (p.target k) _ _ t | inr h ↦ past xs k h ]
+    at_other xs k t = let here = lifted_is xs k in let far = past xs k in grind arith
 
   -- planes that agree on a set of places still do after a pass whose ends keep to it
   pub lifted_local : (op : K → K → K) (amount : Option K → Option K → K) (p : Pass) (on : ℕ → Bool) (xs ys : List K) →
@@ -94,18 +94,9 @@ module _ {K : Type 0} (z : K) where
         ∙ sym (at_target op amount p xs k h t) in
         record {
           long = length-set ys k v ∙ c.long;
-          after = λ j u d. elim (cases_eq j k) [
-            | inl e ↦ subst (λ (i : ℕ). get_or (set ys k v) i z ≡ get_or (lifted z op amount p xs) i z) (sym e) (get_or-set_same ys k v z lt ∙ new)
-            | inr ne ↦ get_or-set_other ys k j v z ne ∙ c.after j u (sym (same j ne u) ∙ d)
-          ];
-          before = λ j u d. elim (cases_eq j k) [
-            | inl e ↦ absurd (both_ways (more j) d (ap more e ∙ now))
-            | inr ne ↦ get_or-set_other ys k j v z ne ∙ c.before j u (sym (same j ne u) ∙ d)
-          ];
-          other = λ j u. elim (cases_eq j k) [
-            | inl e ↦ absurd (both_ways (p.target j) u (ap p.target e ∙ t))
-            | inr ne ↦ get_or-set_other ys k j v z ne ∙ c.other j u
-          ];
+          after = λ j u d. let o = get_or-set_other ys k j v z in let e = same j in let w = c.after j u in let i = get_or-set_same ys k v z lt in grind arith;
+          before = λ j u d. let o = get_or-set_other ys k j v z in let e = same j in let w = c.before j u in grind arith;
+          other = λ j u. let o = get_or-set_other ys k j v z in let w = c.other j u in grind arith;
         }
 
   module _ (held : K → Bool) where
@@ -125,13 +116,12 @@ module _ {K : Type 0} (z : K) where
     pub lifted_held : (op : K → K → K) (amount : Option K → Option K → K) (p : Pass) (xs : List K) →
         ((a b : K) → held a ≡ true → held b ≡ true → held (op a b) ≡ true) → KeepsHeld amount → Held xs → Held (lifted z op amount p xs)
     lifted_held op amount p xs closed keeps hold k =
-        elim (cases_lt k (length xs)) [
-          | inr h ↦ ap held (past op amount p xs k h) ∙ hold k
-          | inl h ↦ elim (cases_Bool (p.target k)) [
-            | inr t ↦ ap held (at_other op amount p xs k t) ∙ hold k
-            | inl t ↦ ap held (at_target op amount p xs k h t) ∙ closed _ _ (hold k) (amount_held amount keeps p xs hold k)
-          ]
-        ]
+        let far = past op amount p xs k in
+        let other = at_other op amount p xs k in
+        let target = at_target op amount p xs k in
+        let had = hold k in
+        let new = closed _ _ (hold k) (amount_held amount keeps p xs hold k) in
+        grind arith
 
     -- a pass is undone by the same pass with the undoing operation
     pub lifted_undone : (op undo : K → K → K) (amount : Option K → Option K → K) (p : Pass) (xs : List K) →

@@ -1,198 +1,159 @@
 -- How far the rows of a sub-pass bring it, and that they stay in the plane. Assumes nothing.
-use Rattle.std.proofs.Common.{◌≡◌, ℕ, ◌+◌, ◌-◌, ◌*◌, ◌/◌, ◌<◌, ◌≤◌, Bool, true, false, cond, ltb, ◌⊎◌, List, length, take, sym, refl, ap, ◌∙◌, subst, inl, inr, mul_assoc, mul_comm, add-mul, one-mul, le-mul_of_pos_right, arith}
-use Rattle.std.proofs.lemmas.List.{length-take-le}
-use Rattle.std.proofs.lemmas.Bool.{cases_lt, cases_order, cond-true, cond-false, lt-ltb, le-ltb, true≢false}
+use Rattle.std.proofs.Common.{◌≡◌, ℕ, ◌+◌, ◌-◌, ◌*◌, ◌<◌, ◌≤◌, Bool, true, false, cond, ltb, ◌⊎◌, List, sym, ap, ◌∙◌, subst, le-mul_of_pos_right, arith}
+use Rattle.std.proofs.lemmas.Bool.Decides.{nat_tests}
+use Rattle.std.proofs.lemmas.Bool.{cond-true}
 use Rattle.geometry.specs.declared.direction.Direction.{Direction}
 use Rattle.geometry.specs.declared.direction.Direction.TheVariants.{Row, Column}
 use Rattle.geometry.specs.declared.lattice.Lattice.{Lattice}
 use Rattle.geometry.specs.declared.point.Point.{Point}
-use Rattle.geometry.specs.Frames.{along}
 use Rattle.breaks.specs.declared.run.Run.{Run}
-use Rattle.lifting.specs.Meanings.{Meaning}
-use Rattle.lifting.specs.Passes.{Breaks, has_parity, on_point, pass}
+use Rattle.lifting.specs.declared.sweep.parts.LatticeRow.{LatticeRow}
+use Rattle.lifting.specs.declared.sweep.parts.Track.{Track}
+use Rattle.lifting.specs.Passes.{has_parity, on_point, pass}
 use Rattle.lifting.specs.Stages.{op, amount}
-use Rattle.lifting.specs.Runs.{earlier, ComeTo, PartOf, Small, Carries, Moves, Passes, inner, inner_count}
+use Rattle.lifting.specs.Runs.{Sweep, earlier, ComeTo, PartOf, Small, Carries, Moves, InRow, PastRow, Passes, inner, inner_count, inner_end}
 use Rattle.geometry.specs.Places.{point_of}
-use Rattle.geometry.proofs.Points.{spot_of_place}
+use Rattle.geometry.proofs.Points.{IsPoint}
 use Rattle.lifting.proofs.Lifts.{come_none, come_all}
-use Rattle.lifting.proofs.Ends.{on_some}
-use Rattle.lifting.proofs.Parts.{column_part, row_part, come_jump, earlier_row, earlier_on, earlier_never, in_lattice}
+use Rattle.lifting.proofs.Ends.{target_point}
+use Rattle.lifting.proofs.Parts.{column_part, row_part, come_jump, in_lattice}
 
--- the first n of a list
-pub front_length : {X : Type 0} (xs : List X) (n : ℕ) → n ≤ length xs → length (take (n - 0) xs) ≡ n
-front_length xs n h = length-take-le (n - 0) xs (omega arith) ∙ (let e : n - 0 ≡ n = omega arith in e)
+-- every point of the rows above is earlier, and none of those from a point on
+earlier_above : (x y : ℕ) (q : Point) → q.y < y → earlier x y q ≡ true
+earlier_above x y q h = grind (arith, nat_tests)
 
--- between two stops in one row, or from one to the start of the next
+earlier_below : (x y : ℕ) (q : Point) → x ≤ q.x → y ≤ q.y → earlier x y q ≡ false
+earlier_below x y q hx hy = grind (arith, nat_tests)
+
+-- from a stop in a row to another in it, and to the start of the next
 earlier_apart : (x u y : ℕ) (q : Point) → (q.y ≡ y → ltb q.x u ≡ ltb q.x x) → earlier u y q ≡ earlier x y q
-earlier_apart x u y q same = elim (cases_order q.y y) [
-  | inl e ↦ earlier_on u y q e ∙ same e ∙ sym (earlier_on x y q e)
-  | inr (inl l) ↦ earlier_row u y q l ∙ sym (earlier_row x y q l)
-  | inr (inr l) ↦ earlier_never u y q l ∙ sym (earlier_never x y q l)
-]
+earlier_apart x u y q same = grind (arith, nat_tests)
 
-earlier_next : (x y : ℕ) (q : Point) → (q.y ≡ y → q.x < x) → earlier 0 (y + 1) q ≡ earlier x y q
-earlier_next x y q all = elim (cases_order q.y y) [
-  | inl e ↦ earlier_row 0 (y + 1) q (omega arith) ∙ sym (earlier_on x y q e ∙ lt-ltb q.x x (all e))
-  | inr (inl l) ↦ earlier_row 0 (y + 1) q (omega arith) ∙ sym (earlier_row x y q l)
-  | inr (inr l) ↦ last (cases_order q.y (y + 1))
-]
-  where
-    last : (q.y ≡ y + 1) ⊎ ((q.y < y + 1) ⊎ (y + 1 < q.y)) → earlier 0 (y + 1) q ≡ earlier x y q
-    last (inl e) = earlier_on 0 (y + 1) q e ∙ le-ltb q.x 0 (omega arith) ∙ sym (earlier_never x y q (omega arith))
-    last (inr (inl l)) = earlier_row 0 (y + 1) q l ∙ sym (late (cases_order q.y y))
-      where
-        late : (q.y ≡ y) ⊎ ((q.y < y) ⊎ (y < q.y)) → earlier x y q ≡ true
-        late (inl e) = earlier_on x y q e ∙ lt-ltb q.x x (all e)
-        late (inr (inl h)) = earlier_row x y q h
-        late (inr (inr h)) = absurd (omega arith)
-    last (inr (inr l)) = earlier_never 0 (y + 1) q l ∙ sym (earlier_never x y q (omega arith))
-
-module _ {K : Type 0} (m : Meaning K) (broken : Breaks) (r : ℕ) (odd join : Bool) (l : Lattice) (old new : List K) where
-  -- a row of a column sub-pass
-  pub column_moves : (j n back forth : ℕ) → j < l.rows → has_parity odd (l.top + j) ≡ true → n ≡ l.columns → back ≡ cond (ltb 0 j) l.down 0 → forth ≡ cond (ltb (j + 1) l.rows) l.down 0 →
-      Carries m broken odd join (record { resolution = r; direction = Column; first = record { x = l.left; y = l.top + j }; step = 1 }) n (l.first + j * l.down) back forth l.across old new →
-      Moves m broken r Column odd join l 0 (l.top + j) 0 (l.top + j + 1) old new
-  column_moves j n back forth hj par en eb ef carries c xs outside long fine is come =
-      let run : Run = record { resolution = r; direction = Column; first = record { x = l.left; y = l.top + j }; step = 1 } in
-      let part : PartOf c odd run n (l.first + j * l.down) back forth l.across =
-      subst (λ (a : ℕ). PartOf c odd run a (l.first + j * l.down) back forth l.across) (sym en)
-      (subst (λ (a : ℕ). PartOf c odd run l.columns (l.first + j * l.down) a forth l.across) (sym eb)
-      (subst (λ (a : ℕ). PartOf c odd run l.columns (l.first + j * l.down) (cond (ltb 0 j) l.down 0) a l.across) (sym ef)
-      (column_part c r l fine is odd j hj par))) in
-      come_jump c r l fine is m broken Column odd join xs new (n * 1 + l.left) (l.top + j) 0 (l.top + j + 1)
-      (λ q i t. earlier_next (n * 1 + l.left) (l.top + j) q (λ e. omega (arith, i.right)))
-      (carries c xs outside long part
-      (come_jump c r l fine is m broken Column odd join xs old 0 (l.top + j) l.left (l.top + j)
-      (λ q i t. earlier_apart 0 l.left (l.top + j) q (λ e. le-ltb q.x l.left i.left ∙ sym (le-ltb q.x 0 (omega arith)))) come))
-
-  -- points of a row in a row sub-pass
-  pub row_moves : (j i n len back forth : ℕ) → j < l.rows → ((k : ℕ) → k < n → i + 2 * k < l.columns) → has_parity odd (l.left + i) ≡ true →
-      ((k : ℕ) → k < n → 0 < i + 2 * k → back ≡ l.across) → ((k : ℕ) → k < n → i + 2 * k + 1 < l.columns → forth ≡ l.across) →
-      len ≡ n → Carries m broken odd join (record { resolution = r; direction = Row; first = record { x = l.left + i; y = l.top + j }; step = 2 }) len (l.first + j * l.down + i * l.across) back forth (2 * l.across) old new →
-      Moves m broken r Row odd join l (l.left + i) (l.top + j) (n * 2 + (l.left + i)) (l.top + j) old new
-  row_moves j i n len back forth hj hi par hb hf size carries c xs outside long fine is come =
-      let run : Run = record { resolution = r; direction = Row; first = record { x = l.left + i; y = l.top + j }; step = 2 } in
-      subst (λ (a : ℕ). ComeTo m c broken r Row odd join xs (a * 2 + (l.left + i)) (l.top + j) new) size
-      (carries c xs outside long (subst (λ (a : ℕ). PartOf c odd run a (l.first + j * l.down + i * l.across) back forth (2 * l.across)) (sym size) (row_part c r l fine is odd n j i back forth hj hi par hb hf)) come)
-
-  -- moving on past columns without points of the parity, and to the next row
-  pub row_skips : (j x u : ℕ) → ((q : Point) → l.left ≤ q.x → q.x < l.left + l.columns → has_parity odd q.x ≡ true → ltb q.x u ≡ ltb q.x x) → new ≡ old →
-      Moves m broken r Row odd join l x (l.top + j) u (l.top + j) old new
-  row_skips j x u same e c xs outside long fine is come =
-      subst (λ (ys : List K). ComeTo m c broken r Row odd join xs u (l.top + j) ys) (sym e)
-      (come_jump c r l fine is m broken Row odd join xs old x (l.top + j) u (l.top + j) (λ q i t. earlier_apart x u (l.top + j) q (λ h. same q i.left i.right t)) come)
-
-  pub row_ends : (j x : ℕ) → ((q : Point) → q.x < l.left + l.columns → has_parity odd q.x ≡ true → q.x < x) → new ≡ old →
-      Moves m broken r Row odd join l x (l.top + j) 0 (l.top + j + 1) old new
-  row_ends j x all e c xs outside long fine is come =
-      subst (λ (ys : List K). ComeTo m c broken r Row odd join xs 0 (l.top + j + 1) ys) (sym e)
-      (come_jump c r l fine is m broken Row odd join xs old x (l.top + j) 0 (l.top + j + 1) (λ q i t. earlier_next x (l.top + j) q (λ h. all q i.right t)) come)
-
-  -- a row of the other parity in a column sub-pass
-  pub column_skips : (j : ℕ) → has_parity odd (l.top + j) ≡ false → new ≡ old → Moves m broken r Column odd join l 0 (l.top + j) 0 (l.top + j + 1) old new
-  column_skips j par e c xs outside long fine is come =
-      subst (λ (ys : List K). ComeTo m c broken r Column odd join xs 0 (l.top + j + 1) ys) (sym e)
-      (come_jump c r l fine is m broken Column odd join xs old 0 (l.top + j) 0 (l.top + j + 1)
-      (λ q i t. earlier_next 0 (l.top + j) q (λ h. absurd (true≢false (sym t ∙ ap (has_parity odd) h ∙ par)))) come)
+earlier_next : (x w y z : ℕ) (q : Point) → z ≡ y + 1 → w ≤ q.x → (q.y ≡ y → q.x < x) → earlier w z q ≡ earlier x y q
+earlier_next x w y z q e h all = grind (arith, nat_tests)
 
 -- one stretch after another
-pub moves_on : {K : Type 0} (m : Meaning K) (broken : Breaks) (r : ℕ) (d : Direction) (odd join : Bool) (l : Lattice) (x y u v s t : ℕ) (a b e : List K) →
-    Moves m broken r d odd join l x y u v a b → Moves m broken r d odd join l u v s t b e → Moves m broken r d odd join l x y s t a e
-moves_on m broken r d odd join l x y u v s t a b e f g c xs outside long fine is come = g c xs outside long fine is (f c xs outside long fine is come)
+pub moves_on : {K : Type 0} {s : Sweep K} {l : Lattice} {d : Direction} {h i j k m n : ℕ} {a b e : List K} → Moves s l d h i j k a b → Moves s l d j k m n b e → Moves s l d h i m n a e
+moves_on f g = record { come = λ c xs suits come. g.come c xs suits (f.come c xs suits come) }
 
--- by other words for the same columns
-pub moves_as : {K : Type 0} (m : Meaning K) (broken : Breaks) (r : ℕ) (d : Direction) (odd join : Bool) (l : Lattice) (x y u v s t : ℕ) (a b : List K) →
-    s ≡ x → u ≡ t → Moves m broken r d odd join l x y u v a b → Moves m broken r d odd join l s y t v a b
-moves_as m broken r d odd join l x y u v s t a b p q f c xs outside long fine is come =
-    subst (λ (n : ℕ). ComeTo m c broken r d odd join xs n v b) q (f c xs outside long fine is (subst (λ (n : ℕ). ComeTo m c broken r d odd join xs n y a) p come))
+module _ (row : LatticeRow) where
+  abbrev l : Lattice
+  l = row.lattice
 
--- the three stretches of a row in a row sub-pass
-module _ {K : Type 0} (m : Meaning K) (broken : Breaks) (r : ℕ) (odd join : Bool) (l : Lattice) (old new : List K) (j : ℕ) where
-  pub first_other : has_parity odd l.left ≡ false → new ≡ old → Moves m broken r Row odd join l 0 (l.top + j) (l.left + inner odd l) (l.top + j) old new
-  first_other par e = row_skips m broken r odd join l old new j 0 (l.left + inner odd l) (λ q lo hi t.
-      le-ltb q.x (l.left + inner odd l) (elim (cases_order q.x l.left) [
-        | inl h ↦ absurd (true≢false (sym t ∙ ap (has_parity odd) h ∙ par))
-        | inr (inl h) ↦ absurd (omega arith)
-        | inr (inr h) ↦ omega (arith, cond-false {A = ℕ} (has_parity odd l.left) 2 1 par)
-      ])
-      ∙ sym (le-ltb q.x 0 (omega arith))) e
+  abbrev j : ℕ
+  j = row.j
 
-  pub first_empty : l.columns ≡ 0 → new ≡ old → Moves m broken r Row odd join l 0 (l.top + j) (l.left + inner odd l) (l.top + j) old new
-  first_empty none e = row_skips m broken r odd join l old new j 0 (l.left + inner odd l) (λ q lo hi t. absurd (omega arith)) e
+  abbrev y : ℕ
+  y = row.lattice.top + row.j
 
-  pub first_done : has_parity odd l.left ≡ true → Moves m broken r Row odd join l (l.left + 0) (l.top + j) (1 * 2 + (l.left + 0)) (l.top + j) old new → Moves m broken r Row odd join l 0 (l.top + j) (l.left + inner odd l) (l.top + j) old new
-  first_done par f =
-      moves_on m broken r Row odd join l 0 (l.top + j) (l.left + 0) (l.top + j) (l.left + inner odd l) (l.top + j) old old new
-      (row_skips m broken r odd join l old old j 0 (l.left + 0) (λ q lo hi t. le-ltb q.x (l.left + 0) (omega arith) ∙ sym (le-ltb q.x 0 (omega arith))) refl)
-      (moves_as m broken r Row odd join l (l.left + 0) (l.top + j) (1 * 2 + (l.left + 0)) (l.top + j) (l.left + 0) (l.left + inner odd l) old new refl (omega (arith, cond-true {A = ℕ} (has_parity odd l.left) 2 1 par)) f)
+  -- n points from column i on, every other one, that all have points on both sides, or one point
+  abbrev Points : ℕ → ℕ → Type 0
+  Points i n = ((0 < i) × (2 * n ≤ l.columns - i)) ⊎ ((n ≡ 1) × (i < l.columns))
 
-  pub middle_done : (i n : ℕ) → i ≡ inner odd l → n ≡ inner_count odd l → Moves m broken r Row odd join l (l.left + i) (l.top + j) (n * 2 + (l.left + i)) (l.top + j) old new →
-      Moves m broken r Row odd join l (l.left + inner odd l) (l.top + j) (l.left + (inner odd l + 2 * inner_count odd l)) (l.top + j) old new
-  middle_done i n ei en f =
-      moves_as m broken r Row odd join l (l.left + i) (l.top + j) (n * 2 + (l.left + i)) (l.top + j) (l.left + inner odd l) (l.left + (inner odd l + 2 * inner_count odd l)) old new (ap (λ (a : ℕ). l.left + a) (sym ei))
-      (omega (arith, ei, en)) f
+  points_in : (i n : ℕ) → Points i n → (k : ℕ) → k < n → i + 2 * k < l.columns
+  points_in i n points k h = grind arith
 
-  pub last_other : (inner odd l + 2 * inner_count odd l + 1 ≡ l.columns → ⊥) → new ≡ old → Moves m broken r Row odd join l (l.left + (inner odd l + 2 * inner_count odd l)) (l.top + j) 0 (l.top + j + 1) old new
-  last_other ne e = row_ends m broken r odd join l old new j (l.left + (inner odd l + 2 * inner_count odd l)) (λ q hi t. far (inner odd l) q.x ne hi) e
-    where
-      far : (a x : ℕ) → (a + 2 * ((l.columns - a) / 2) + 1 ≡ l.columns → ⊥) → x < l.left + l.columns → x < l.left + (a + 2 * ((l.columns - a) / 2))
-      far a x ne h = omega arith
+  back_is : (i n : ℕ) → Points i n → (back : ℕ) → back ≡ cond (ltb 0 i) l.across 0 → (k : ℕ) → k < n → 0 < i + 2 * k → back ≡ l.across
+  back_is i n points back e k h some = grind (arith, nat_tests)
 
-  pub last_done : (i : ℕ) → i ≡ inner odd l + 2 * inner_count odd l → i + 1 ≡ l.columns → Moves m broken r Row odd join l (l.left + i) (l.top + j) (1 * 2 + (l.left + i)) (l.top + j) old new →
-      Moves m broken r Row odd join l (l.left + (inner odd l + 2 * inner_count odd l)) (l.top + j) 0 (l.top + j + 1) old new
-  last_done i ei last f =
-      moves_on m broken r Row odd join l (l.left + (inner odd l + 2 * inner_count odd l)) (l.top + j) (1 * 2 + (l.left + i)) (l.top + j) 0 (l.top + j + 1) old new new
-      (moves_as m broken r Row odd join l (l.left + i) (l.top + j) (1 * 2 + (l.left + i)) (l.top + j) (l.left + (inner odd l + 2 * inner_count odd l)) (1 * 2 + (l.left + i)) old new (ap (λ (a : ℕ). l.left + a) (sym ei)) refl f)
-      (row_ends m broken r odd join l new new j (1 * 2 + (l.left + i)) (λ q hi t. omega arith) refl)
+  forth_is : (i n : ℕ) → Points i n → (forth : ℕ) → forth ≡ cond (ltb (i + 1) l.columns) l.across 0 → (k : ℕ) → k < n → i + 2 * k + 1 < l.columns → forth ≡ l.across
+  forth_is i n points forth e k h some = grind (arith, nat_tests)
 
--- the places of a row in a column sub-pass
-module _ (l : Lattice) (size : ℕ) (small : Small l size) (j : ℕ) (hj : j < l.rows) where
-  pub column_back : (back : ℕ) → back ≡ cond (ltb 0 j) l.down 0 → back ≤ l.first + j * l.down
-  column_back back e = elim (cases_lt 0 j) [
-    | inl h ↦ omega (arith, e ∙ cond-true (ltb 0 j) l.down 0 (lt-ltb 0 j h), le-mul_of_pos_right l.down h, mul_comm j l.down)
-    | inr h ↦ omega (arith, e ∙ cond-false (ltb 0 j) l.down 0 (le-ltb 0 j h))
-  ]
+  none_is : (i n : ℕ) → Points i n → (forth : ℕ) → forth ≡ cond (ltb (i + 1) l.columns) l.across 0 → (k : ℕ) → k < n → l.columns ≤ i + 2 * k + 1 → forth ≡ 0
+  none_is i n points forth e k h none = grind (arith, nat_tests)
 
-  pub column_within : (forth : ℕ) → forth ≡ cond (ltb (j + 1) l.rows) l.down 0 → (k : ℕ) → k < l.columns → l.first + j * l.down + k * l.across + forth < size
-  column_within forth e k hk = elim (cases_lt (j + 1) l.rows) [
-    | inl h ↦ omega (arith, e ∙ cond-true (ltb (j + 1) l.rows) l.down 0 (lt-ltb (j + 1) l.rows h), small.within k (j + 1) hk h, add-mul j 1 l.down, one-mul l.down)
-    | inr h ↦ omega (arith, e ∙ cond-false (ltb (j + 1) l.rows) l.down 0 (le-ltb (j + 1) l.rows h), small.within k j hk hj)
-  ]
+  module _ {K : Type 0} {s : Sweep K} {old new : List K} where
+    -- a row of a column sub-pass
+    pub column_moves : {n back forth : ℕ} {inside : back ≤ l.first + j * l.down} → has_parity s.odd y ≡ true → n ≡ l.columns → back ≡ cond (ltb 0 j) l.down 0 → forth ≡ cond (ltb (j + 1) l.rows) l.down 0 →
+        Carries s (record { resolution = s.resolution; direction = Column; first = record { x = l.left; y = y }; step = 1 }) n
+        (record { here = l.first + j * l.down; back = back; forth = forth; stride = l.across; inside = inside }) old new →
+        PastRow s row Column 0 old new
+    column_moves {n = n} {back = back} {forth = forth} {inside = inside} par en eb ef carries = record {
+      come = λ c xs suits come.
+          come_jump s l c xs suits Column new (n * 1 + l.left) y (l.left + 0) (l.top + (j + 1)) (λ q i t. earlier_next (n * 1 + l.left) (l.left + 0) y (l.top + (j + 1)) q (omega arith) (omega arith) (λ e. omega arith))
+          (carries.come c xs suits.outside suits.long (column_part c s.resolution l suits.fine suits.is s.odd n j back forth inside row.inside par en eb ef)
+          (subst (λ (x : ℕ). ComeTo s c Column xs x y old) (let e : l.left + 0 ≡ l.left = omega arith in e) come));
+    }
 
-  pub row_within : (i n forth : ℕ) → ((k : ℕ) → k < n → i + 2 * k < l.columns) → ((k : ℕ) → k < n → i + 2 * k + 1 < l.columns → forth ≡ l.across) → ((k : ℕ) → k < n → (i + 2 * k + 1 < l.columns) ⊎ (forth ≡ 0)) →
-      (k : ℕ) → k < n → l.first + j * l.down + i * l.across + k * (2 * l.across) + forth < size
-  row_within i n forth hi hf either k hk =
-      let e : (i + 2 * k) * l.across ≡ i * l.across + k * (2 * l.across) = add-mul i (2 * k) l.across ∙ ap (λ (a : ℕ). i * l.across + a) (ap (λ (a : ℕ). a * l.across) (mul_comm 2 k) ∙ mul_assoc k 2 l.across) in
-      elim (either k hk) [
-        | inl h ↦ omega (arith, small.within (i + 2 * k + 1) j h hj, hf k hk h, e, add-mul (i + 2 * k) 1 l.across, one-mul l.across)
-        | inr h ↦ omega (arith, small.within (i + 2 * k) j (hi k hk) hj, h, e)
-      ]
+    -- points of a row in a row sub-pass
+    pub row_moves : (i n : ℕ) {len back forth : ℕ} {inside : back ≤ l.first + j * l.down + i * l.across} → Points i n → has_parity s.odd (l.left + i) ≡ true →
+        back ≡ cond (ltb 0 i) l.across 0 → forth ≡ cond (ltb (i + 1) l.columns) l.across 0 → len ≡ n →
+        Carries s (record { resolution = s.resolution; direction = Row; first = record { x = l.left + i; y = y }; step = 2 }) len
+        (record { here = l.first + j * l.down + i * l.across; back = back; forth = forth; stride = 2 * l.across; inside = inside }) old new →
+        InRow s row i (i + 2 * n) old new
+    row_moves i n {len} {back} {forth} {inside} points par eb ef size carries =
+        let run : Run = record { resolution = s.resolution; direction = Row; first = record { x = l.left + i; y = y }; step = 2 } in
+        let track : Track = record { here = l.first + j * l.down + i * l.across; back = back; forth = forth; stride = 2 * l.across; inside = inside } in
+        record {
+          come = λ c xs suits come.
+              subst (λ (x : ℕ). ComeTo s c Row xs x y new) (let e : len * 2 + (l.left + i) ≡ l.left + (i + 2 * n) = omega arith in e)
+              (carries.come c xs suits.outside suits.long (subst (λ (a : ℕ). PartOf c s.odd run a track) (sym size) (row_part c s.resolution l suits.fine suits.is s.odd n j i back forth inside row.inside (points_in i n points) par (back_is i n points back eb) (forth_is i n points forth ef))) come);
+        }
 
-module _ {K : Type 0} (m : Meaning K) (broken : Breaks) (r : ℕ) (d : Direction) (odd join : Bool) (l : Lattice) (old new : List K) where
-  -- no row yet
-  pub rows_none : Moves m broken r d odd join l 0 l.top 0 (l.top + 0) old old
-  rows_none c xs outside long fine is come = subst (λ (y : ℕ). ComeTo m c broken r d odd join xs 0 y old) (let e : l.top ≡ l.top + 0 = omega arith in e) come
+  module _ {K : Type 0} {s : Sweep K} {now : List K} where
+    -- moving on past columns without points of the parity, and to the next row
+    row_skips : (i k : ℕ) → ((q : Point) → l.left ≤ q.x → q.x < l.left + l.columns → has_parity s.odd q.x ≡ true → ltb q.x (l.left + k) ≡ ltb q.x (l.left + i)) → InRow s row i k now now
+    row_skips i k same = record { come = λ c xs suits come. come_jump s l c xs suits Row now (l.left + i) y (l.left + k) y (λ q w t. earlier_apart (l.left + i) (l.left + k) y q (λ h. same q w.left w.right t)) come }
 
+    row_ends : (i : ℕ) → ((q : Point) → q.x < l.left + l.columns → has_parity s.odd q.x ≡ true → q.x < l.left + i) → PastRow s row Row i now now
+    row_ends i all = record {
+      come = λ c xs suits come. come_jump s l c xs suits Row now (l.left + i) y (l.left + 0) (l.top + (j + 1)) (λ q w t. earlier_next (l.left + i) (l.left + 0) y (l.top + (j + 1)) q (omega arith) (omega arith) (λ h. all q w.right t)) come;
+    }
+
+    -- a row of the other parity in a column sub-pass
+    pub column_skips : has_parity s.odd y ≡ false → PastRow s row Column 0 now now
+    column_skips par = record {
+      come = λ c xs suits come. come_jump s l c xs suits Column now (l.left + 0) y (l.left + 0) (l.top + (j + 1))
+          (λ q w t. earlier_next (l.left + 0) (l.left + 0) y (l.top + (j + 1)) q (omega arith) (omega arith) (λ h. grind arith)) come;
+    }
+
+    -- a row sub-pass where the row's first column has the other parity, or the row has no column
+    pub first_none : {b : Bool} → b ≡ has_parity s.odd l.left → ((b ≡ true) × (l.columns ≤ 0)) ⊎ (b ≡ false) → InRow s row 0 (inner s.odd l) now now
+    first_none e h = row_skips 0 (inner s.odd l) (λ q lo hi t. grind (arith, nat_tests))
+
+    pub last_other : (inner_end s.odd l + 1 ≡ l.columns → ⊥) → PastRow s row Row (inner_end s.odd l) now now
+    last_other ne = row_ends (inner_end s.odd l) (λ q hi t. grind arith)
+
+  -- the three stretches of a row in a row sub-pass
+  module _ {K : Type 0} {s : Sweep K} {old new : List K} where
+    pub first_done : has_parity s.odd l.left ≡ true → InRow s row 0 2 old new → InRow s row 0 (inner s.odd l) old new
+    first_done par f = subst (λ (k : ℕ). InRow s row 0 k old new) (sym (cond-true {A = ℕ} (has_parity s.odd l.left) 2 1 par)) f
+
+    pub middle_done : {i n : ℕ} → i ≡ inner s.odd l → n ≡ inner_count s.odd l → InRow s row i (i + 2 * n) old new → InRow s row (inner s.odd l) (inner_end s.odd l) old new
+    middle_done {n = n} ei en f = subst (λ (m : ℕ). InRow s row (inner s.odd l) (inner s.odd l + 2 * m) old new) en (subst (λ (i : ℕ). InRow s row i (i + 2 * n) old new) ei f)
+
+    pub last_done : (i : ℕ) → i ≡ inner_end s.odd l → i + 1 ≡ l.columns → InRow s row i (i + 2) old new → PastRow s row Row (inner_end s.odd l) old new
+    last_done i ei last f = subst (λ (k : ℕ). PastRow s row Row k old new) ei (moves_on f (row_ends (i + 2) (λ q hi t. omega arith)))
+
+  -- the places of a row in a column sub-pass
+  module _ (size : ℕ) (small : Small row.lattice size) where
+    pub column_back : (back : ℕ) → back ≡ cond (ltb 0 j) l.down 0 → back ≤ l.first + j * l.down
+    column_back back e = let h = λ (some : 0 < j). le-mul_of_pos_right l.down some in grind (arith, nat_tests)
+
+    pub column_within : (forth : ℕ) → forth ≡ cond (ltb (j + 1) l.rows) l.down 0 → (k : ℕ) → k < l.columns → l.first + j * l.down + k * l.across + forth < size
+    column_within forth e k hk = let here = small.within k j hk row.inside in let below = small.within k (j + 1) hk in grind (arith, nat_tests)
+
+    pub row_back : (i back : ℕ) → back ≡ cond (ltb 0 i) l.across 0 → back ≤ l.first + j * l.down + i * l.across
+    row_back i back e = let h = λ (some : 0 < i). le-mul_of_pos_right l.across some in grind (arith, nat_tests)
+
+    pub row_within : (i n forth : ℕ) → Points i n → forth ≡ cond (ltb (i + 1) l.columns) l.across 0 → (k : ℕ) → k < n → l.first + j * l.down + i * l.across + k * (2 * l.across) + forth < size
+    row_within i n forth points e k hk =
+        let here = small.within (i + 2 * k) j (points_in i n points k hk) row.inside in
+        let next = λ (h : i + 2 * k + 1 < l.columns). small.within (i + 2 * k + 1) j h row.inside in
+        let by = forth_is i n points forth e k hk in
+        let none = λ (h : l.columns ≤ i + 2 * k + 1). none_is i n points forth e k hk h in
+        grind arith
+
+module _ {K : Type 0} {s : Sweep K} {l : Lattice} {d : Direction} where
   -- every row
-  pub rows_all : (j : ℕ) → l.rows ≤ j → Moves m broken r d odd join l 0 l.top 0 (l.top + j) old new → Passes m broken r d odd join l old new
-  rows_all j h moves c outside long fine is =
-      come_all m.kind.nothing (op m join) (amount m odd) (pass c broken r d odd) old (λ k. on_point (earlier 0 (l.top + j)) (point_of c r k)) new
-      (λ k lt t.
-      let s = on_some (λ q. has_parity odd (along d q)) (point_of c r k) t in
-      let i = in_lattice c r l fine is s.0 (spot_of_place c r k s.0 s.1).0 in
-      ap (on_point (earlier 0 (l.top + j))) s.1 ∙ earlier_row 0 (l.top + j) s.0 (omega (arith, i.bottom)))
-      (moves c old outside long fine is
-      (come_none m.kind.nothing (op m join) (amount m odd) (pass c broken r d odd) old (λ k. on_point (earlier 0 l.top) (point_of c r k))
-      (λ k t.
-      let s = on_some (λ q. has_parity odd (along d q)) (point_of c r k) t in
-      let i = in_lattice c r l fine is s.0 (spot_of_place c r k s.0 s.1).0 in
-      ap (on_point (earlier 0 l.top)) s.1 ∙ elim (cases_lt l.top s.0.y) [
-        | inl h ↦ earlier_never 0 l.top s.0 h
-        | inr h ↦ earlier_on 0 l.top s.0 (omega (arith, i.top)) ∙ le-ltb s.0.x 0 (omega arith)
-      ])))
-
--- one row more
-pub moves_row : {K : Type 0} (m : Meaning K) (broken : Breaks) (r : ℕ) (d : Direction) (odd join : Bool) (l : Lattice) (j : ℕ) (a b e : List K) →
-    Moves m broken r d odd join l 0 l.top 0 (l.top + j) a b → Moves m broken r d odd join l 0 (l.top + j) 0 (l.top + j + 1) b e → Moves m broken r d odd join l 0 l.top 0 (l.top + (j + 1)) a e
-moves_row m broken r d odd join l j a b e f g c xs outside long fine is come =
-    subst (λ (y : ℕ). ComeTo m c broken r d odd join xs 0 y e) (let q : l.top + j + 1 ≡ l.top + (j + 1) = omega arith in q) (g c xs outside long fine is (f c xs outside long fine is come))
+  pub rows_all : {j : ℕ} {old new : List K} → l.rows ≤ j → Moves s l d 0 0 0 j old new → Passes s l d old new
+  rows_all {j} {old} {new} h moves = record {
+    is = λ c suits.
+        let r = s.resolution in
+        let stands = λ (o : Point) (i : IsPoint c r o). in_lattice c r l suits.fine suits.is o i in
+        come_all s.meaning.kind.nothing (op s.meaning s.join) (amount s.meaning s.odd) (pass c s.broken r d s.odd) old (λ k. on_point (earlier (l.left + 0) (l.top + j)) (point_of c r k)) new
+        (λ k lt t. let o = target_point c r d s.odd k t in let i = stands o.point o.is in ap (on_point (earlier (l.left + 0) (l.top + j))) o.at ∙ earlier_above (l.left + 0) (l.top + j) o.point (omega arith))
+        (moves.come c old suits
+        (come_none s.meaning.kind.nothing (op s.meaning s.join) (amount s.meaning s.odd) (pass c s.broken r d s.odd) old (λ k. on_point (earlier (l.left + 0) (l.top + 0)) (point_of c r k))
+        (λ k t. let o = target_point c r d s.odd k t in let i = stands o.point o.is in ap (on_point (earlier (l.left + 0) (l.top + 0))) o.at ∙ earlier_below (l.left + 0) (l.top + 0) o.point (omega arith) (omega arith))));
+  }

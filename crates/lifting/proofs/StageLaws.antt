@@ -1,6 +1,5 @@
 -- Stages undo one another, keep planes planes, and do not cross a closed border. Assumes nothing.
-use Rattle.std.proofs.Common.{◌≡◌, ℕ, zero, suc, ◌-◌, ◌<◌, ◌≤◌, Bool, true, false, cond, not, ◌≢◌, ◌⊎◌, List, length, get_or, None, sym, refl, ap, ◌∙◌, subst, inl, inr, arith}
-use Rattle.std.proofs.lemmas.Bool.{true≢false, false≢true}
+use Rattle.std.proofs.Common.{◌≡◌, ℕ, zero, suc, ◌-◌, ◌<◌, ◌≤◌, Bool, true, false, cond, not, List, length, get_or, None, sym, refl, ap, ◌∙◌, subst, arith}
 use Rattle.geometry.specs.declared.corners.Corners.{Corners}
 use Rattle.geometry.specs.declared.direction.Direction.{Direction}
 use Rattle.geometry.specs.declared.direction.Direction.TheVariants.{Row, Column}
@@ -161,20 +160,10 @@ abbrev pub same_side : Bool → Bool → Bool
 same_side a b = cond a b (not b)
 
 pub same_is : (a b : Bool) → same_side a b ≡ true → a ≡ b
-same_is true b e = sym e
-same_is false true e = absurd (false≢true e)
-same_is false false e = refl
+same_is a b e = grind arith
 
 pub is_same : (a b : Bool) → a ≡ b → same_side a b ≡ true
-is_same true b e = sym e
-is_same false true e = absurd (false≢true e)
-is_same false false e = refl
-
-either_side : (a b : Bool) → (a ≡ b) ⊎ (a ≢ b)
-either_side true true = inl refl
-either_side true false = inr true≢false
-either_side false true = inr false≢true
-either_side false false = inl refl
+is_same a b e = grind arith
 
 module _ (c : Corners) (side : Sides) (s : Bool) where
   -- the places on a side
@@ -187,8 +176,8 @@ module _ (c : Corners) (side : Sides) (s : Bool) where
   pub side_spreads : (broken : Breaks) → Closed c broken side → (r : ℕ) (d : Direction) → Spreads c broken r d on_side
   side_spreads broken closed r d p gap whole =
       let i = gap_parts c (gap_from r d p) gap in
-      let same : side (finest c r p) ≡ side (finest c r (next d p)) =
-      elim (either_side (side (finest c r p)) (side (finest c r (next d p)))) [ inl e ↦ e | inr ne ↦ absurd (true≢false (sym (closed (gap_from r d p) gap ne) ∙ whole)) ] in
+      let cut = closed (gap_from r d p) gap in
+      let same : side (finest c r p) ≡ side (finest c r (next d p)) = grind arith in
       at_spot r p i.from ∙ ap (λ (b : Bool). same_side b s) same ∙ sym (at_spot r (next d p) i.to)
 
   module _ {K : Type 0} (m : Meaning K) where

@@ -1,32 +1,28 @@
 -- A header that was read. Assumes nothing.
-use Rattle.std.proofs.Common.{◌≡◌, ℕ, suc, ◌+◌, ◌<◌, ◌≤◌, Bool, true, false, cond, not, ◌||◌, eqb, ltb, List, [], ◌∷◌, length, sym, refl, ap, ◌∙◌, ⊎_elim, arith}
-use Rattle.std.proofs.lemmas.Bool.{cond_both, eqb-false, eq-eqb, ne_eqb, ltb-false, lt-ltb, le-ltb, or_parts, cases_lt, cases_eq}
-use Rattle.netpbm.specs.Faults.{zero_size, bad_maxval}
+use Rattle.std.proofs.Common.{◌≡◌, ℕ, suc, ◌+◌, ◌≤◌, Bool, true, false, cond, ◌||◌, eqb, ltb, List, [], ◌∷◌, length, refl, ap, ◌∙◌, arith}
+use Rattle.std.proofs.lemmas.Bool.{cond_both, eqb-false, ltb-false, or_parts}
+use Rattle.std.proofs.lemmas.Bool.Decides.{nat_tests}
+use Rattle.netpbm.specs.Faults.{not_pgm, no_number, zero_size, bad_maxval}
 use Rattle.netpbm.specs.Reads.{Read, got, fault, and_then, stop_if, white, opens, line_end, digit, byte, magic, skipped, gap, after_digits, value_on, digits, numeral, one_white}
 use Rattle.netpbm.specs.Parses.{header_by}
 use Rattle.netpbm.specs.Seen.{capped, capped_read, capped_numeral}
 use Rattle.netpbm.specs.declared.header.Header.{Header}
+use Rattle.netpbm.proofs.Turns.{first_by, first_le, byte_first, one_first, gap_first, digits_first}
 
 -- what a bind that got something had before
-pub record Step {X Y : Type 0} (r : Read X) (f : X → List ℕ → Read Y) (y : Y) (zs : List ℕ) : Type 0 where
-  pub value : X
-  pub rest : List ℕ
-  pub is : r ≡ got value rest
-  pub next : f value rest ≡ got y zs
+record Step {X Y : Type 0} (r : Read X) (f : X → List ℕ → Read Y) (y : Y) (zs : List ℕ) : Type 0 where
+  value : X
+  rest : List ℕ
+  is : r ≡ got value rest
+  next : f value rest ≡ got y zs
 
-no_fault : {X : Type 0} (w : ℕ) (x : X) (bs : List ℕ) → fault w ≡ got x bs → ⊥
-no_fault w x bs e = let z : ◌≡◌ {A = ℕ} 0 1 = cc in omega arith
-
-pub then_got : {X Y : Type 0} (r : Read X) (f : X → List ℕ → Read Y) (y : Y) (zs : List ℕ) → and_then r f ≡ got y zs → Step r f y zs
+then_got : {X Y : Type 0} (r : Read X) (f : X → List ℕ → Read Y) (y : Y) (zs : List ℕ) → and_then r f ≡ got y zs → Step r f y zs
 then_got (got x bs) f y zs e = record { value = x; rest = bs; is = refl; next = e }
-then_got (fault w) f y zs e = absurd (no_fault w y zs e)
+then_got (fault w) f y zs e = cc
 
-pub stop_got : {X : Type 0} (b : Bool) (w : ℕ) (r : Read X) (y : X) (zs : List ℕ) → stop_if b w r ≡ got y zs → (b ≡ false) × (r ≡ got y zs)
-stop_got true w r y zs e = absurd (no_fault w y zs e)
+stop_got : {X : Type 0} (b : Bool) (w : ℕ) (r : Read X) (y : X) (zs : List ℕ) → stop_if b w r ≡ got y zs → (b ≡ false) × (r ≡ got y zs)
+stop_got true w r y zs e = cc
 stop_got false w r y zs e = (refl, e)
-
-got_rest : {X : Type 0} (x y : X) (bs cs : List ℕ) → got x bs ≡ got y cs → bs ≡ cs
-got_rest x y bs cs e = cc
 
 -- no item leaves more than it was given
 skipped_le : (t : Bool) (bs : List ℕ) → length (skipped t bs) ≤ length bs
@@ -45,12 +41,7 @@ after_le [] = omega arith
 after_le (b ∷ bs) = cond_both (digit b) (after_digits bs) (b ∷ bs) (λ q. length q ≤ suc (length bs)) (λ _. omega (arith, after_le bs)) (λ _. omega arith)
 
 byte_le : (w : ℕ) (bs : List ℕ) (x : Unit {0}) (cs : List ℕ) → byte w bs ≡ got x cs → length cs + 1 ≤ length bs
-unfolding byte
-byte_le w [] x cs e = absurd (no_fault _ x cs e)
-byte_le w (b ∷ bs) x cs e =
-    let s = stop_got (not (eqb b w)) _ (got tt bs) x cs e in
-    let r = got_rest tt x bs cs s.1 in
-    omega (arith, ap length r)
+byte_le w bs x cs e = first_le (λ b. eqb b w) not_pgm bs x cs (byte_first w bs ∙ e)
 
 magic_le : (bs : List ℕ) (x : Unit {0}) (cs : List ℕ) → magic bs ≡ got x cs → length cs + 2 ≤ length bs
 unfolding magic
@@ -61,22 +52,16 @@ magic_le bs x cs e =
     omega arith
 
 gap_le : (bs : List ℕ) (x : Unit {0}) (cs : List ℕ) → gap bs ≡ got x cs → length cs ≤ length bs
-unfolding gap
-gap_le [] x cs e = absurd (no_fault _ x cs e)
-gap_le (b ∷ bs) x cs e =
-    let s = stop_got (not (opens b)) _ (got tt (skipped false (b ∷ bs))) x cs e in
-    let r = got_rest tt x (skipped false (b ∷ bs)) cs s.1 in
-    let l = skipped_le false (b ∷ bs) in
-    omega (arith, ap length r)
+gap_le bs x cs e =
+    let s = then_got (first_by opens no_number bs) (λ _ _. got tt (skipped false bs)) x cs (gap_first bs ∙ e) in
+    let r : skipped false bs ≡ cs = cc in
+    omega (arith, ap length r, skipped_le false bs)
 
 digits_le : (bs : List ℕ) (n : ℕ) (cs : List ℕ) → digits bs ≡ got n cs → length cs ≤ length bs
-unfolding digits
-digits_le [] n cs e = absurd (no_fault _ n cs e)
-digits_le (b ∷ bs) n cs e =
-    let s = stop_got (not (digit b)) _ (got (value_on 0 (b ∷ bs)) (after_digits (b ∷ bs))) n cs e in
-    let r = got_rest (value_on 0 (b ∷ bs)) n (after_digits (b ∷ bs)) cs s.1 in
-    let l = after_le (b ∷ bs) in
-    omega (arith, ap length r)
+digits_le bs n cs e =
+    let s = then_got (first_by digit no_number bs) (λ _ _. got (value_on 0 bs) (after_digits bs)) n cs (digits_first bs ∙ e) in
+    let r : after_digits bs ≡ cs = cc in
+    omega (arith, ap length r, after_le bs)
 
 numeral_le : (bs : List ℕ) (n : ℕ) (cs : List ℕ) → numeral bs ≡ got n cs → length cs ≤ length bs
 unfolding numeral
@@ -86,13 +71,8 @@ numeral_le bs n cs e =
     let b = digits_le s.rest n cs s.next in
     omega arith
 
-one_le : (bs : List ℕ) (x : Unit {0}) (cs : List ℕ) → one_white bs ≡ got x cs → length cs ≤ length bs
-unfolding one_white
-one_le [] x cs e = absurd (no_fault _ x cs e)
-one_le (b ∷ bs) x cs e =
-    let s = stop_got (not (white b)) _ (got tt bs) x cs e in
-    let r = got_rest tt x bs cs s.1 in
-    omega (arith, ap length r)
+one_le : (bs : List ℕ) (x : Unit {0}) (cs : List ℕ) → one_white bs ≡ got x cs → length cs + 1 ≤ length bs
+one_le bs x cs e = first_le white no_number bs x cs (one_first bs ∙ e)
 
 -- what holds of a header that was read
 pub record Sound (t : Header) (bs cs : List ℕ) : Type 0 where
@@ -101,9 +81,6 @@ pub record Sound (t : Header) (bs cs : List ℕ) : Type 0 where
   pub bright : 1 ≤ t.maxval
   pub fits : t.maxval ≤ 65535
   pub shorter : length cs + 2 ≤ length bs
-
-got_value : {X : Type 0} (x y : X) (bs cs : List ℕ) → got x bs ≡ got y cs → x ≡ y
-got_value x y bs cs e = cc
 
 pub header_sound : (bs : List ℕ) (t : Header) (cs : List ℕ) → header_by numeral bs ≡ got t cs → Sound t bs cs
 header_sound bs t cs e =
@@ -114,8 +91,8 @@ header_sound bs t cs e =
     let m = then_got (numeral h.rest) _ t cs z.1 in
     let y = stop_got (eqb m.value 0 || ltb 65535 m.value) bad_maxval _ t cs m.next in
     let o = then_got (one_white m.rest) _ t cs y.1 in
-    let same = got_value (record { width = w.value; height = h.value; maxval = m.value }) t o.rest cs o.next in
-    let left = got_rest (record { width = w.value; height = h.value; maxval = m.value }) t o.rest cs o.next in
+    let same : ◌≡◌ {A = Header} (record { width = w.value; height = h.value; maxval = m.value }) t = cc o.next in
+    let left : o.rest ≡ cs = cc o.next in
     let zs = or_parts (eqb w.value 0) (eqb h.value 0) z.0 in
     let ys = or_parts (eqb m.value 0) (ltb 65535 m.value) y.0 in
     let sw : w.value ≡ t.width = ap (λ (q : Header). q.width) same in
@@ -154,14 +131,10 @@ stop_capped a true w r s e h = ap (λ t. stop_if t w r) e
 stop_capped a false w r s e h = ap (λ t. stop_if t w r) e ∙ h
 
 zero_capped : (n : ℕ) → eqb (capped n) 0 ≡ eqb n 0
-zero_capped n =
-    ⊎_elim (λ (e : n ≡ 0). eq-eqb (capped n) 0 (omega arith) ∙ sym (eq-eqb n 0 e))
-    (λ (e : n ≡ 0 → ⊥). ne_eqb (capped n) 0 (λ h. e (omega arith)) ∙ sym (ne_eqb n 0 e)) (cases_eq n 0)
+zero_capped n = grind (arith, nat_tests)
 
 over_capped : (n : ℕ) → ltb 65535 (capped n) ≡ ltb 65535 n
-over_capped n =
-    ⊎_elim (λ (e : 65535 < n). lt-ltb 65535 (capped n) (omega arith) ∙ sym (lt-ltb 65535 n e))
-    (λ (e : n ≤ 65535). le-ltb 65535 (capped n) (omega arith) ∙ sym (le-ltb 65535 n e)) (cases_lt 65535 n)
+over_capped n = grind (arith, nat_tests)
 
 header_capped : (bs : List ℕ) → header_by capped_numeral bs ≡ capped_header (header_by numeral bs)
 header_capped bs =
@@ -181,15 +154,15 @@ pub record Uncapped (bs : List ℕ) (head : Header) (cs : List ℕ) : Type 0 whe
 
 uncap : (bs : List ℕ) (r : Read Header) (head : Header) (cs : List ℕ) → header_by numeral bs ≡ r → got head cs ≡ capped_header r → Uncapped bs head cs
 uncap bs (got t rest) head cs e h =
-    let r : rest ≡ cs = sym (got_rest head (capped_of t) cs rest h) in
-    record { whole = t; is = e ∙ ap (got t) r; same = got_value head (capped_of t) cs rest h }
-uncap bs (fault w) head cs e h = absurd (no_fault w head cs (sym h))
+    let r : rest ≡ cs = cc h in
+    record { whole = t; is = e ∙ ap (got t) r; same = cc h }
+uncap bs (fault w) head cs e h = cc
 
 pub uncapped : (bs : List ℕ) (head : Header) (cs : List ℕ) → got head cs ≡ header_by capped_numeral bs → Uncapped bs head cs
 uncapped bs head cs e = uncap bs (header_by numeral bs) head cs refl (e ∙ header_capped bs)
 
 fault_of : (r : Read Header) (w : ℕ) → fault w ≡ capped_header r → r ≡ fault w
-fault_of (got t bs) w e = absurd (no_fault w (capped_of t) bs e)
+fault_of (got t bs) w e = cc
 fault_of (fault v) w e = let same : v ≡ w = cc in ap fault same
 
 pub header_fault : (bs : List ℕ) (w : ℕ) → fault w ≡ header_by capped_numeral bs → header_by numeral bs ≡ fault w

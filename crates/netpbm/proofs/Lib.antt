@@ -5,4 +5,5 @@ pub mod Readings
 pub mod Trips
 pub mod Covers
 pub mod Cuts
+pub mod Rows
 pub mod Joins

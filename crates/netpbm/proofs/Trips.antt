@@ -1,15 +1,17 @@
 -- What is written is read back: one lemma for each item. Assumes nothing.
-use Rattle.std.proofs.Common.{◌≡◌, ℕ, ◌+◌, ◌-◌, ◌*◌, ◌^◌, ◌<◌, ◌≤◌, Bool, true, false, not, ◌&&◌, eqb, ltb, leb, List, [], ◌∷◌, ◌++◌, length, decimal, sym, refl, ap, ◌∙◌, ⊎_elim, append_assoc, mul-one, arith, rules}
+use Rattle.std.proofs.Common.{◌≡◌, ℕ, ◌+◌, ◌-◌, ◌*◌, ◌^◌, ◌<◌, ◌≤◌, Bool, true, false, not, ◌&&◌, eqb, List, [], ◌∷◌, ◌++◌, length, decimal, sym, refl, ap, ◌∙◌, append_assoc, arith, rules}
 use Rattle.std.specs.List.{flat_map}
 use Rattle.std.proofs.lemmas.Nat.{div-add-mod'}
 use Rattle.std.proofs.lemmas.Fmt.{digits_decimal, digits_value-decimal, decimal_nonempty}
 use Rattle.std.proofs.lemmas.Str.Parse.{IsNumeralModel, numerals_by_fold}
-use Rattle.std.proofs.lemmas.Bool.{cond-true, cond-false, ne_eqb, lt-leb, le-ltb, leb-true, and_parts, and_right, or_from, cases_Bool}
+use Rattle.std.proofs.lemmas.Bool.Decides.{nat_tests}
+use Rattle.std.proofs.lemmas.Bool.{cond-true, cond-false, ne_eqb, le-ltb, and_parts}
 use Rattle.netpbm.specs.Answers.{accepted}
 use Rattle.netpbm.specs.Pictures.{Picture, within}
 use Rattle.netpbm.specs.Reads.{got, and_then, white, opens, digit, byte, magic, gap, value_on, after_digits, digits, numeral, one_white}
 use Rattle.netpbm.specs.Parses.{header_by, sample_size, pairs, values, plate, plate_after, parsed}
 use Rattle.netpbm.specs.Writes.{pair_bytes, sample_bytes, written}
+use Rattle.netpbm.proofs.Readings.{plate_whole}
 
 -- numbers
 abbrev every_digit : List ℕ → Bool
@@ -39,12 +41,7 @@ digits_forth (c ∷ cs) d rest h l e =
     cond-false (not (digit c)) _ _ (ap not p.0) ∙ (λ i. got (v.0 i) (v.1 i))
 
 no_space : (c : ℕ) → digit c ≡ true → (white c ≡ false) × (eqb c 35 ≡ false)
-no_space c h =
-    let p = and_parts (leb 48 c) (leb c 57) h in
-    let low = leb-true 48 c p.0 in (
-      or_from (eqb c 32) (leb 9 c && leb c 13) (ne_eqb c 32 (λ e. omega arith)) (and_right (leb 9 c) (leb c 13) (lt-leb c 13 (omega arith))),
-      ne_eqb c 35 (λ e. omega arith),
-    )
+no_space c h = (grind (arith, nat_tests), grind (arith, nat_tests))
 
 gap_forth : (b : ℕ) (ds rest : List ℕ) → white b ≡ true → opens b ≡ true → every_digit ds ≡ true → 0 < length ds → gap (b ∷ (ds ++ rest)) ≡ got tt (ds ++ rest)
 unfolding gap
@@ -69,24 +66,14 @@ pairs_forth [] = refl
 pairs_forth (x ∷ xs) = let e = div-add-mod' x 256 in let f = pairs_forth xs in (λ i. e i ∷ f i)
 
 values_forth : (m : ℕ) (xs : List ℕ) → values m (sample_bytes m xs) ≡ xs
-values_forth m xs =
-    ⊎_elim
-    (λ (t : ltb m 256 ≡ true). cond-true (ltb m 256) _ _ t ∙ cond-true (ltb m 256) _ _ t)
-    (λ (t : ltb m 256 ≡ false). cond-false (ltb m 256) _ _ t ∙ ap pairs (cond-false (ltb m 256) _ _ t) ∙ pairs_forth xs)
-    (cases_Bool (ltb m 256))
+values_forth m xs = grind (arith, nat_tests, pairs_forth)
 
 length_pairs : (xs : List ℕ) → length (flat_map pair_bytes xs) ≡ length xs * 2
 length_pairs [] = refl
 length_pairs (x ∷ xs) = omega (arith, length_pairs xs)
 
 length_bytes : (m : ℕ) (xs : List ℕ) → length (sample_bytes m xs) ≡ length xs * sample_size m
-length_bytes m xs =
-    ⊎_elim
-    (λ (t : ltb m 256 ≡ true).
-    ap length (cond-true (ltb m 256) xs (flat_map pair_bytes xs) t) ∙ sym (ap (λ (q : ℕ). length xs * q) (cond-true (ltb m 256) 1 2 t) ∙ mul-one (length xs)))
-    (λ (t : ltb m 256 ≡ false).
-    ap length (cond-false (ltb m 256) xs (flat_map pair_bytes xs) t) ∙ length_pairs xs ∙ sym (ap (λ (q : ℕ). length xs * q) (cond-false (ltb m 256) 1 2 t)))
-    (cases_Bool (ltb m 256))
+length_bytes m xs = grind (arith, nat_tests, length_pairs)
 
 -- what a raster's picture keeps to
 pub record Sound (p : Picture) : Type 0 where
@@ -126,8 +113,7 @@ plate_forth p s =
     let l : length bs ≡ size = length_bytes m p.samples ∙ ap (λ (q : ℕ). q * sample_size m) s.whole in
     let v = values_forth m p.samples in
     let k : within m (values m bs) ≡ true = ap (within m) v ∙ s.kept in
-    cond-false (ltb (length bs) size) _ _ (le-ltb (length bs) size (omega arith)) ∙ cond-false (ltb size (length bs)) _ _ (le-ltb size (length bs) (omega arith))
-    ∙ cond-false (not (within m (values m bs))) _ _ (ap not k)
+    plate_whole (record { width = p.width; height = p.height; maxval = p.maxval }) bs (sym l) ∙ cond-false (not (within m (values m bs))) _ _ (ap not k)
     ∙ (λ i. accepted (record { width = p.width; height = p.height; maxval = p.maxval; samples = v i }))
 
 pub written_read : (p : Picture) → Sound p → parsed (written p) ≡ accepted p

@@ -1,6 +1,8 @@
 pub mod Answers
 pub mod Faults
 pub mod Texts
+pub mod Lengths
+pub mod Depths
 pub mod Pictures
 pub mod Rasters
 pub mod Reads

@@ -1,15 +1,20 @@
 -- Windows of a picture whose samples stand row by row. Assumes nothing.
-use Rattle.std.specs.Prelude.{◌≡◌, ℕ, ◌+◌, ◌-◌, ◌*◌, ◌/◌, ◌%◌, ◌<◌, ◌≤◌, min, Bool, true, cond, not, ◌&&◌, List, length, Some, None, Ok, Err, vec_items, Option, Result, Vec, ◌==◌, ◌≢◌, nat_le, nat_lt, slice_index}
+use Rattle.std.specs.Prelude.{◌≡◌, ℕ, ◌+◌, ◌-◌, ◌*◌, ◌/◌, ◌%◌, ◌^◌, ◌<◌, ◌≤◌, min, Bool, true, false, cond, not, ◌&&◌, List, length, Some, None, Ok, Err, vec_items, Option, Result, Vec, ◌==◌, ◌≢◌, nat_le, nat_lt, slice_index}
 use Rattle.std.specs.declared.alloc.Global.{Global}
 use Rattle.netpbm.specs.Answers.{Answer, accepted, refused, refuse_if}
 use Rattle.netpbm.specs.Faults.{fault_number, cut_short, left_over, no_memory, no_window}
 use Rattle.netpbm.specs.Pictures.{Picture}
 use Rattle.netpbm.specs.declared.fault.Fault.{Fault}
+use Rattle.netpbm.specs.declared.fault.Fault.TheVariants.{NoWindow}
 use Rattle.netpbm.specs.declared.window.Window.{Window}
 
 -- how many windows lie along a length n: the whole ones, and one more where something is left
 abbrev pub across : ℕ → ℕ → ℕ
 across n s = cond (s == 0) 0 (n / s + min 1 (n % s))
+
+-- the piece of number k, of those of s samples that a length n is cut into: where it begins, and how long it is
+abbrev pub piece : ℕ → ℕ → ℕ → Option (ℕ × ℕ)
+piece n s k = cond (nat_lt k (across n s)) (Some (k * s, min s (n - k * s))) None
 
 -- the window in the column c and the row r, of those of side s in a picture of w times h samples
 abbrev pub window_answer : ℕ → ℕ → ℕ → ℕ → ℕ → Answer Window
@@ -25,6 +30,11 @@ seen_window None = refused no_window
 -- whether the window lies inside a picture of w times h samples
 abbrev pub inside : Window → ℕ → ℕ → Bool
 inside t w h = nat_le (t.x + t.width) w && nat_le (t.y + t.height) h
+
+-- a window that does not lie inside is refused
+abbrev pub InsideChecked : Window → ℕ → ℕ → Result (Unit {0}) Fault → Type 0
+InsideChecked t w h (Ok u) = inside t w h ≡ true
+InsideChecked t w h (Err f) = (inside t w h ≡ false) × (f ≡ NoWindow)
 
 -- the sample in the column a and the row b lies in the window
 pub record Contains (t : Window) (a b : ℕ) : Type 0 where
@@ -50,6 +60,12 @@ Covered w h s = 0 < s → (a b : ℕ) → a < w → b < h → ExactlyOne w h s a
 -- where the sample in the column i and the row j of a window stands, in rows of `stride` samples
 abbrev pub place : ℕ → Window → ℕ → ℕ → ℕ
 place stride t i j = (t.y + j) * stride + (t.x + i)
+
+-- the window's rows stand among n samples, in rows of `stride` samples
+pub record InRows (stride n : ℕ) (t : Window) : Type 0 where
+  pub across : t.x + t.width ≤ stride
+  pub fits : t.y + t.height < 2 ^ 64
+  pub down : (t.y + t.height) * stride ≤ n
 
 -- `part` holds the samples of the first n rows of a window, row by row
 pub record PartRows (stride : ℕ) (xs : List ℕ) (t : Window) (n : ℕ) (part : List ℕ) : Type 0 where

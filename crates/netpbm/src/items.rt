@@ -1,8 +1,10 @@
 // Items off the front of what is left of the bytes.
-ghost use Rattle.std.specs.Prelude.{◌≡◌, true, false, length};
-ghost use Rattle.netpbm.specs.Reads.{white, opens, line_end, digit, byte, magic, skipped, gap, value_on, after_digits, digits, one_white};
+ghost use Rattle.std.specs.Prelude.{◌≡◌, false, drop};
+ghost use Rattle.std.specs.List.{position_or_len};
+ghost use Rattle.netpbm.specs.Faults.{fault_number};
+ghost use Rattle.netpbm.specs.Reads.{white, opens, line_end, byte, magic, skipped, gap, value_on, after_digits, digits, one_white};
 ghost use Rattle.netpbm.specs.Parses.{header_by};
-ghost use Rattle.netpbm.specs.Seen.{seen, seen_rest, capped, capped_read, capped_numeral};
+ghost use Rattle.netpbm.specs.Seen.{seen, seen_rest, TakesIf, capped, capped_read, capped_numeral};
 
 use crate::fault::Fault;
 use crate::header::Header;
@@ -10,7 +12,7 @@ use crate::header::Header;
 fn is_white(b: u8) -> bool
     ensures { result ≡ white b }
 {
-    b == b' ' || (b'\t' <= b && b <= b'\r')
+    matches!(b, b' ' | b'\t'..=b'\r')
 }
 
 // Whether white space or a comment begins.
@@ -23,24 +25,26 @@ fn is_gap(b: u8) -> bool
 fn is_line_end(b: u8) -> bool
     ensures { result ≡ line_end b }
 {
-    b == b'\n' || b == b'\r'
+    matches!(b, b'\n' | b'\r')
 }
 
-fn is_digit(b: u8) -> bool
-    ensures { result ≡ digit b }
+// What follows the first byte, which must pass the test; else the fault.
+fn take_if<F: Fn(u8) -> bool>(bytes: &[u8], passes: F, fault: Fault) -> Result<&[u8], Fault>
+    requires { F.IsAlwaysCallable passes }
+    ensures { TakesIf (F.post passes) (fault_number fault) bytes.now (seen_rest result) }
 {
-    b'0' <= b && b <= b'9'
+    match bytes {
+        [] => Err(Fault::CutShort),
+        [b, rest @ ..] if passes(*b) => Ok(rest),
+        _ => Err(fault),
+    }
 }
 
 // The byte that must stand there.
 fn take_byte(bytes: &[u8], wanted: u8) -> Result<&[u8], Fault>
     ensures { seen_rest result ≡ byte wanted bytes.now }
 {
-    match bytes {
-        [] => Err(Fault::CutShort),
-        [b, rest @ ..] if *b == wanted => Ok(rest),
-        _ => Err(Fault::NotPgm),
-    }
+    take_if(bytes, |b| b == wanted, Fault::NotPgm)
 }
 
 fn take_magic(bytes: &[u8]) -> Result<&[u8], Fault>
@@ -50,33 +54,36 @@ fn take_magic(bytes: &[u8]) -> Result<&[u8], Fault>
     take_byte(rest, b'5')
 }
 
+// What stands from the end of the line on.
+fn skip_line(bytes: &[u8]) -> &[u8]
+    ensures { result.now ≡ drop (position_or_len line_end bytes.now) bytes.now }
+{
+    let end = bytes
+        .iter()
+        .position(|b| is_line_end(*b))
+        .unwrap_or(bytes.len());
+    &bytes[end..]
+}
+
 // What follows white space and comments.
 fn skip_gap(bytes: &[u8]) -> &[u8]
     ensures { result.now ≡ skipped false bytes.now }
 {
     let mut rest = bytes;
-    let mut comment = false;
-    while let [b, more @ ..] = rest {
-        if comment {
-            comment = !is_line_end(*b);
-        } else if *b == b'#' {
-            comment = true;
-        } else if !is_white(*b) {
-            return rest;
-        }
-        rest = more;
+    loop {
+        rest = match rest {
+            [b'#', comment @ ..] => skip_line(comment),
+            [b, more @ ..] if is_white(*b) => more,
+            _ => return rest,
+        };
     }
-    rest
 }
 
 fn take_gap(bytes: &[u8]) -> Result<&[u8], Fault>
     ensures { seen_rest result ≡ gap bytes.now }
 {
-    match bytes {
-        [] => Err(Fault::CutShort),
-        [b, ..] if is_gap(*b) => Ok(skip_gap(bytes)),
-        _ => Err(Fault::NoNumber),
-    }
+    take_if(bytes, is_gap, Fault::NoNumber)?;
+    Ok(skip_gap(bytes))
 }
 
 // The number of the digits at the front, or the largest usize where it is larger, and what follows them.
@@ -86,11 +93,8 @@ fn read_digits(bytes: &[u8]) -> (usize, &[u8])
 {
     let mut rest = bytes;
     let mut n: usize = 0;
-    while let [b, more @ ..] = rest {
-        if !is_digit(*b) {
-            break;
-        }
-        n = n.saturating_mul(10).saturating_add((*b - b'0') as usize);
+    while let [b @ b'0'..=b'9', more @ ..] = rest {
+        n = n.saturating_mul(10).saturating_add(usize::from(*b - b'0'));
         rest = more;
     }
     (n, rest)
@@ -99,11 +103,8 @@ fn read_digits(bytes: &[u8]) -> (usize, &[u8])
 fn take_digits(bytes: &[u8]) -> Result<(usize, &[u8]), Fault>
     ensures { seen result ≡ capped_read (digits bytes.now) }
 {
-    match bytes {
-        [] => Err(Fault::CutShort),
-        [b, ..] if is_digit(*b) => Ok(read_digits(bytes)),
-        _ => Err(Fault::NoNumber),
-    }
+    take_if(bytes, |b| b.is_ascii_digit(), Fault::NoNumber)?;
+    Ok(read_digits(bytes))
 }
 
 // White space, and then a number.
@@ -117,11 +118,7 @@ fn take_numeral(bytes: &[u8]) -> Result<(usize, &[u8]), Fault>
 fn take_white(bytes: &[u8]) -> Result<&[u8], Fault>
     ensures { seen_rest result ≡ one_white bytes.now }
 {
-    match bytes {
-        [] => Err(Fault::CutShort),
-        [b, rest @ ..] if is_white(*b) => Ok(rest),
-        _ => Err(Fault::NoNumber),
-    }
+    take_if(bytes, is_white, Fault::NoNumber)
 }
 
 // The header, with sizes that are too large for a usize capped.
@@ -135,16 +132,14 @@ pub fn take_header(bytes: &[u8]) -> Result<(Header, &[u8]), Fault>
         return Err(Fault::ZeroSize);
     }
     let (maxval, rest) = take_numeral(rest)?;
-    if maxval == 0 || maxval > 65535 {
+    let Ok(maxval @ 1..) = u16::try_from(maxval) else {
         return Err(Fault::BadMaxval);
-    }
+    };
     let rest = take_white(rest)?;
-    Ok((
-        Header {
-            width,
-            height,
-            maxval: maxval as u16,
-        },
-        rest,
-    ))
+    let head = Header {
+        width,
+        height,
+        maxval,
+    };
+    Ok((head, rest))
 }

@@ -1,50 +1,32 @@
 // Reading a picture from the bytes of a file.
 ghost use Rattle.std.specs.Prelude.{◌≡◌, IfOk};
-ghost use Rattle.netpbm.specs.Parses.{sample_size, pairs, values, parsed, UnlessMemory};
+ghost use Rattle.netpbm.specs.Parses.{pairs, values, parsed, UnlessMemory};
 ghost use Rattle.netpbm.specs.Rasters.{seen_raster};
 
-use crate::fault::Fault;
+use crate::fault::{Fault, check_len};
+use crate::header::Depth;
 use crate::items::take_header;
 use crate::raster::Raster;
 use std::alloc::{AllocError, Global};
 
-fn narrow_samples(heap: Global, bytes: &[u8]) -> Result<Vec<u16>, AllocError>
-    ensures { IfOk result (λ v. v.items ≡ bytes.now) }
+// The samples that stand in the bytes.
+fn take_samples(heap: Global, maxval: u16, bytes: &[u8]) -> Result<Vec<u16>, AllocError>
+    ensures { IfOk result (λ v. v.items ≡ values maxval bytes.now) }
 {
-    let mut out = Vec::with_capacity(heap, bytes.len())?;
-    for b in bytes {
-        out.push(u16::from(*b))?;
+    match Depth::of(maxval) {
+        Depth::One => bytes.iter().map(|b| u16::from(*b)).collect(heap),
+        Depth::Two => wide_samples(heap, bytes),
     }
-    Ok(out)
 }
 
 fn wide_samples(heap: Global, bytes: &[u8]) -> Result<Vec<u16>, AllocError>
     ensures { IfOk result (λ v. v.items ≡ pairs bytes.now) }
 {
-    let mut out = Vec::with_capacity(heap, bytes.len() / 2)?;
-    let mut rest = bytes;
-    while let [a, b, more @ ..] = rest {
-        out.push(u16::from_be_bytes([*a, *b]))?;
-        rest = more;
-    }
-    Ok(out)
-}
-
-fn take_samples(heap: Global, maxval: u16, bytes: &[u8]) -> Result<Vec<u16>, AllocError>
-    ensures { IfOk result (λ v. v.items ≡ values maxval bytes.now) }
-{
-    if maxval < 256 {
-        narrow_samples(heap, bytes)
-    } else {
-        wide_samples(heap, bytes)
-    }
-}
-
-// How many bytes a sample takes.
-fn bytes_each(maxval: u16) -> usize
-    ensures { result ≡ sample_size maxval }
-{
-    if maxval < 256 { 1 } else { 2 }
+    let (pairs, _) = bytes.as_chunks();
+    pairs
+        .iter()
+        .map(|pair| u16::from_be_bytes(*pair))
+        .collect(heap)
 }
 
 // The picture that the bytes say.
@@ -52,16 +34,7 @@ pub fn read(heap: Global, bytes: &[u8]) -> Result<Raster, Fault>
     ensures { UnlessMemory (seen_raster result) (parsed bytes.now) }
 {
     let (head, rest) = take_header(bytes)?;
-    let size = head
-        .width
-        .saturating_mul(head.height)
-        .saturating_mul(bytes_each(head.maxval));
-    if rest.len() < size {
-        return Err(Fault::CutShort);
-    }
-    if size < rest.len() {
-        return Err(Fault::LeftOver);
-    }
+    check_len(rest.len(), head.size())?;
     let samples = take_samples(heap, head.maxval, rest)?;
     Raster::new(head.width, head.height, head.maxval, samples)
 }

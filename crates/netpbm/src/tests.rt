@@ -9,10 +9,7 @@ use std::process::Abort;
 use std::test::Fail;
 
 fn fault_of(heap: Global, bytes: &[u8]) -> Option<Fault> {
-    match read(heap, bytes) {
-        Ok(_) => None,
-        Err(f) => Some(f),
-    }
+    read(heap, bytes).err()
 }
 
 fn check_picture(

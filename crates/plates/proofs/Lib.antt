@@ -1,2 +1,3 @@
+mod Ends
 mod Sums
 mod Trips

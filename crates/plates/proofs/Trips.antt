@@ -14,11 +14,11 @@ use Rattle.lifting.specs.Passes.{Breaks}
 use Rattle.lifting.specs.Stages.{Plane, stage_down, stage_up, transform}
 use Rattle.lifting.proofs.StageLaws.{transform_next, transform_top, transform_plane, up_down}
 use Rattle.tiles.specs.declared.state.State.TheVariants.{Picture, Bands}
-use Rattle.tiles.specs.Tiles.{Tile, Seen, Begins, Moves, Descends, Ascends, either, opened, open_answer}
+use Rattle.tiles.specs.Tiles.{Tile, Seen, Begins, Moves, Descends, Ascends, either, open_answer}
 use Rattle.tiles.specs.Views.{with_plane}
 use Rattle.tiles.proofs.Sessions.{opened_long}
 use Rattle.plates.specs.declared.range.Range.{Range}
-use Rattle.plates.specs.Bands.{by_mean, bands_at, stage_ranges, ranges_answer}
+use Rattle.plates.specs.Bands.{by_mean, bands_at}
 
 pass : {X : Type 0} (w x y z : X) (a b d : Bool) → a ≡ true → b ≡ false → d ≡ true → cond (not a) x (cond b y (cond (not d) z w)) ≡ w
 pass w x y z a b d p q r = rw p (rw q (rw r))
@@ -67,14 +67,6 @@ more_ranges f n before now x ok come is grown done =
     grown ∙ ap (λ (b : Bool). cond b (before ++ x ∷ []) before) done ∙ ap₂ (λ (rs : List Range) (r : Range). rs ++ r ∷ []) come is
     ∙ sym (map-range_with_len_more f 0 n n (let e : 0 + n ≡ n = omega arith in e))
 
-closed : {X Y : Type 0} (b d : Bool) (n : ℕ) (x : X) (y : Y) → refused n ≡ cond (not b) (refused 4) (accepted x) → cond (not b) (refused 4) (cond d (refused 11) (accepted y)) ≡ refused n
-closed true d n x y e = let z : ◌≡◌ {A = ℕ} 0 1 = cc in absurd (let no_way : ⊥ = omega arith in no_way)
-closed false d n x y e = let same : 4 ≡ n = cc in ap refused same
-
--- a picture that is not opened is refused
-pub not_opened : (c home : Corners) (broken : Breaks) (xs : List ℤ) (n : ℕ) → refused n ≡ open_answer c Picture xs → ranges_answer c home broken xs ≡ refused n
-not_opened c home broken xs n e = closed (eqb (length xs) (plane_length c)) (not (same_frame c home)) n (opened c Picture xs) (stage_ranges c broken xs) e
-
 -- the tile that begin makes of a picture that was opened
 pub begun : (c : Corners) (xs : List ℤ) (p b : Tile) → accepted (with_plane p xs) ≡ open_answer c Picture xs → Begins p (accepted tt) b →
     (length xs ≡ plane_length c) × (b ≡ record { frame = c; stage = c.levels; state = Bands })
@@ -86,13 +78,6 @@ module _ (c home : Corners) (broken : Breaks) (xs : List ℤ) (b : Tile) (same :
     (starts : b ≡ record { frame = c; stage = c.levels; state = Bands }) where
   home_frame : b.frame ≡ c
   home_frame = ap (λ (t : Tile). t.frame) starts
-
-  -- a call that is not refused, and the ranges of its way down
-  pub admitted : ranges_answer c home broken xs ≡ accepted (stage_ranges c broken xs)
-  admitted = let len = eq-eqb (length xs) (plane_length c) long in rw len (rw same)
-
-  pub answered : (rs : List Range) → rs ≡ stage_ranges b.frame broken xs → ranges_answer c home broken xs ≡ accepted rs
-  answered rs e = admitted ∙ ap accepted (sym (e ∙ ap (λ (k : Corners). stage_ranges k broken xs) home_frame))
 
   -- the way up from where the way down ended
   pub came_up : (d u : Tile) (ys zs : List ℤ) (levels : ℕ) → Plane by_mean c xs → with_plane d ys ≡ bands_at b.frame broken xs 0 → levels ≡ c.levels →

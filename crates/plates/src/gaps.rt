@@ -1,7 +1,7 @@
 // Counting gaps.
-ghost use Rattle.std.specs.Prelude.{◌≡◌, ◌+◌, ◌≤◌};
+ghost use Rattle.std.specs.Prelude.{◌≡◌, ◌+◌, ◌*◌, ◌≤◌};
 ghost use Rattle.geometry.specs.Frames.{corners_of};
-ghost use Rattle.plates.specs.Tallies.{weigh, gap_at, broken_from, broken_rows, starts, gap_tally};
+ghost use Rattle.plates.specs.Tallies.{gap_at, broken_from, broken_rows, starts, gap_tally};
 
 use crate::tally::Tally;
 use breaks::source::BreakSource;
@@ -12,57 +12,63 @@ use geometry::gap::Gap;
 use geometry::lattice::Lattice;
 use geometry::point::Point;
 
-// 1 for a broken gap, 0 for a whole one.
-fn weight<B: BreakSource>(source: &B, r: u32, d: Direction, x: u32, y: u32) -> u32
-    ensures is { result ≡ weigh (B.BreakSource.broken source.now (gap_at r d x y)) }
-    ensures one { result ≤ 1 }
-{
-    let gap = Gap {
-        resolution: r,
-        direction: d,
-        from: Point { x, y },
-    };
-    match source.gap(gap) {
-        Wholeness::Broken => 1,
-        Wholeness::Whole => 0,
-    }
-}
-
-// How many of the n gaps from the point (x, y) on to the right are broken.
-fn broken_from<B: BreakSource>(source: &B, r: u32, d: Direction, x: u32, y: u32, n: u32) -> u32
-    requires near { x + n ≤ 1073741824 }
-    ensures is { result ≡ broken_from (B.BreakSource.broken source.now) r d x y n }
-    ensures few { result ≤ n }
-{
-    let mut count = 0;
-    for k in 0..n {
-        count += weight(source, r, d, x + k, y);
-    }
-    count
-}
-
-// The same for the rows below it, so many of them.
-fn broken_rows<B: BreakSource>(
-    source: &B,
-    r: u32,
-    d: Direction,
-    x: u32,
-    y: u32,
+// A block of points of a resolution, of so many columns from `left` on and so many rows from `top` on, and a direction: from each
+// of its points a gap leads to the next point in the direction.
+#[derive(Clone, Copy)]
+struct Block {
+    resolution: u32,
+    direction: Direction,
+    left: u32,
+    top: u32,
     columns: u32,
     rows: u32,
-) -> u32
-    requires right { x + columns ≤ 1073741824 }
-    requires bottom { y + rows ≤ 1073741824 }
-    requires narrow { columns ≤ 512 }
-    requires low { rows ≤ 512 }
-    ensures is { result ≡ broken_rows (B.BreakSource.broken source.now) r d x y columns rows }
-    ensures few { result ≤ 262144 }
-{
-    let mut count = 0;
-    for j in 0..rows {
-        count += broken_from(source, r, d, x, y + j, columns);
+    ghost right: { left + columns ≤ 1073741824 },
+    ghost bottom: { top + rows ≤ 1073741824 },
+    ghost narrow: { columns ≤ 512 },
+    ghost low: { rows ≤ 512 },
+}
+
+impl Block {
+    // How many gaps it has.
+    #[tactic(auto, using(crate::proofs::Sums::product_few))]
+    fn gaps(&self) -> u32
+        ensures is { result ≡ self.now.columns * self.now.rows }
+        ensures few { result ≤ 262144 }
+    {
+        self.columns * self.rows
     }
-    count
+
+    // Whether the gap from a point is broken.
+    fn is_broken<B: BreakSource>(&self, source: &B, from: Point) -> bool
+        ensures { result ≡ B.BreakSource.broken source.now (gap_at self.now.resolution self.now.direction from.x from.y) }
+    {
+        let gap = Gap {
+            resolution: self.resolution,
+            direction: self.direction,
+            from,
+        };
+        source.gap(gap) == Wholeness::Broken
+    }
+
+    // How many gaps from the points of row y are broken.
+    fn broken_in_row<B: BreakSource>(&self, source: &B, y: u32) -> u32
+        ensures is { result ≡ broken_from (B.BreakSource.broken source.now) self.now.resolution self.now.direction self.now.left y self.now.columns }
+        ensures few { result ≤ 512 }
+    {
+        (self.left..self.left + self.columns)
+            .filter(|x| self.is_broken(source, Point { x: *x, y }))
+            .count() as u32
+    }
+
+    // How many gaps from all its points are broken.
+    fn broken<B: BreakSource>(&self, source: &B) -> u32
+        ensures is { result ≡ broken_rows (B.BreakSource.broken source.now) self.now.resolution self.now.direction self.now.left self.now.top self.now.columns self.now.rows }
+        ensures few { result ≤ 262144 }
+    {
+        (self.top..self.top + self.rows)
+            .map(|y| self.broken_in_row(source, y))
+            .sum()
+    }
 }
 
 // How many points of a resolution have a next one in a direction: so many columns of them, and so many rows.
@@ -82,8 +88,16 @@ pub fn count_gaps<B: BreakSource>(frame: &Frame, source: &B, r: u32, d: Directio
 {
     let l = frame.lattice(r);
     let (columns, rows) = starts_of(l, d);
+    let block = Block {
+        resolution: r,
+        direction: d,
+        left: l.left,
+        top: l.top,
+        columns,
+        rows,
+    };
     Tally {
-        gaps: columns * rows,
-        broken: broken_rows(source, r, d, l.left, l.top, columns, rows),
+        gaps: block.gaps(),
+        broken: block.broken(source),
     }
 }

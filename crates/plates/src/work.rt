@@ -1,12 +1,13 @@
 // The work on one tile.
-ghost use Rattle.std.specs.Prelude.{◌≡◌, ◌<◌, ◌≤◌, true, List, map, length, ℤ, pos, IfOk, MatchResult, slice_index_or};
+ghost use Rattle.std.specs.Prelude.{◌≡◌, ◌≤◌, true, not, ◌&&◌, List, map, length, ℤ, pos, nat_lt, IfOk, MatchResult, slice_index_or};
+ghost use Rattle.geometry.specs.declared.refusal.Refusal.TheVariants.{TooLarge as too_large};
 ghost use Rattle.geometry.specs.Frames.{corners_of, frame_answer, same_frame};
 ghost use Rattle.geometry.specs.Refusals.{seen};
 ghost use Rattle.lifting.specs.Stages.{Plane};
 ghost use Rattle.tiles.specs.Views.{bands_tile, with_plane};
-ghost use Rattle.plates.specs.Bands.{by_mean, ends, ends_from, bands_at, stage_ranges, TripOf};
+ghost use Rattle.plates.specs.Bands.{by_mean, ends, bands_at, stage_ranges, TripOf};
 ghost use Rattle.plates.specs.Tiles.{tile_corners, is_number, lost};
-ghost use Rattle.plates.specs.Tallies.{weigh, count};
+ghost use Rattle.plates.specs.Tallies.{count};
 
 use crate::range::Range;
 use crate::trip::Trip;
@@ -20,6 +21,13 @@ use samples::mean::MeanStep;
 use std::alloc::{AllocError, Global};
 use tiles::{Bands, Picture, Unplayed};
 
+// A number as a coordinate; it is too large where it has more than 32 bits.
+fn coordinate(n: usize) -> Result<u32, Refusal>
+    ensures { MatchResult result (λ x. x ≡ n) (λ e. (e ≡ too_large) × (4294967296 ≤ n)) }
+{
+    u32::try_from(n).map_err(|_| Refusal::TooLarge)
+}
+
 // The frame of the tile at a window of a plate whose first sample is at the point `at`.
 pub fn frame_at(at: Point, levels: u32, w: Window) -> Result<Frame, Refusal>
     ensures { seen corners_of result ≡ frame_answer (tile_corners at levels w) }
@@ -31,48 +39,30 @@ pub fn frame_at(at: Point, levels: u32, w: Window) -> Result<Frame, Refusal>
     let y0 = w.y.saturating_add(at.y as usize);
     let x1 = x0.saturating_add(w.width);
     let y1 = y0.saturating_add(w.height);
-    if x1 > 1_073_741_824 || y1 > 1_073_741_824 {
-        return Err(Refusal::TooLarge);
-    }
-    Frame::new(x0 as u32, y0 as u32, x1 as u32, y1 as u32, levels)
+    Frame::new(
+        coordinate(x0)?,
+        coordinate(y0)?,
+        coordinate(x1)?,
+        coordinate(y1)?,
+        levels,
+    )
 }
 
 // The samples as numbers.
 pub fn numbers(heap: Global, samples: &[u16]) -> Result<Vec<i32>, AllocError>
     ensures { IfOk result (λ v. v.items ≡ map pos samples.now) }
 {
-    let mut out = Vec::with_capacity(heap, samples.len())?;
-    for s in samples {
-        out.push(i32::from(*s))?;
-    }
-    Ok(out)
-}
-
-// The range of a number and of a plane.
-fn range_from(first: i32, plane: &[i32]) -> Range
-    ensures { result ≡ ends_from first plane.now }
-{
-    let mut least = first;
-    let mut greatest = first;
-    for x in plane {
-        least = least.min(*x);
-        greatest = greatest.max(*x);
-    }
-    Range { least, greatest }
-}
-
-// The first of some numbers; of none, 0.
-fn first_of(plane: &[i32]) -> i32
-    ensures { result ≡ slice_index_or plane.now 0 (pos 0) }
-{
-    if plane.is_empty() { 0 } else { plane[0] }
+    samples.iter().map(|s| i32::from(*s)).collect(heap)
 }
 
 // The range of some numbers; of none, 0 to 0.
-fn range_of(plane: &[i32]) -> Range
+pub fn range_of(plane: &[i32]) -> Range
     ensures { result ≡ ends plane.now }
 {
-    range_from(first_of(plane), plane)
+    Range {
+        least: plane.iter().copied().min().unwrap_or(0),
+        greatest: plane.iter().copied().max().unwrap_or(0),
+    }
 }
 
 // Every stage down, from the highest. The answer is the range of the plane at each stage.
@@ -90,10 +80,10 @@ fn descend<B: BreakSource>(
 {
     let levels = bands.stage();
     let mut ranges = Vec::with_capacity(heap, levels as usize + 1)?;
-    let _ = ranges.push(range_of(plane));
-    for n in 0..levels {
+    ranges.push(range_of(plane)).unwrap();
+    for _stage in (0..levels).rev() {
         let _ = bands.down(plane, &MeanStep, source);
-        let _ = ranges.push(range_of(plane));
+        ranges.push(range_of(plane)).unwrap();
     }
     Ok(ranges)
 }
@@ -104,7 +94,7 @@ fn ascend<B: BreakSource>(levels: u32, bands: &mut Bands, source: &B, plane: &mu
     requires all { levels ≡ (bands_tile bands.old).frame.levels }
     ensures { (xs : List ℤ) → Plane by_mean (bands_tile bands.old).frame xs → with_plane (bands_tile bands.old) plane.old ≡ bands_at (bands_tile bands.old).frame (B.BreakSource.broken source.now) xs 0 → with_plane (bands_tile bands.new) plane.new ≡ bands_at (bands_tile bands.old).frame (B.BreakSource.broken source.now) xs levels }
 {
-    for s in 0..levels {
+    for _stage in 0..levels {
         let _ = bands.up(plane, &MeanStep, source);
     }
 }
@@ -128,45 +118,27 @@ pub fn there_and_back<B: BreakSource>(
     let mut bands = picture.begin();
     let ranges = descend(heap, &mut bands, source, plane)?;
     ascend(frame.levels(), &mut bands, source, plane);
-    match bands.finish() {
-        Ok(picture) => Ok(Trip {
-            ranges,
-            stage: picture.stage(),
-        }),
-        Err(back) => Err(Unplayed::Refused(back.why)),
-    }
+    let picture = bands.finish().map_err(|back| back.why)?;
+    Ok(Trip {
+        ranges,
+        stage: picture.stage(),
+    })
 }
 
-// Whether a number of the plane is a sample of the plate.
-fn is_sample(x: i32, sample: u16) -> bool
-    ensures { result ≡ is_number sample x }
+// Whether the plane does not have a sample at place k.
+fn is_lost(plane: &[i32], k: usize, sample: u16) -> bool
+    ensures { result ≡ not (nat_lt k (length plane.now) && is_number sample (slice_index_or plane.now k (pos 0))) }
 {
-    x == i32::from(sample)
-}
-
-// 1 where the plane does not have sample k in its place, else 0.
-fn lost_at(plane: &[i32], samples: &[u16], k: usize) -> usize
-    requires { k < length samples.now }
-    ensures is { result ≡ weigh (lost plane.now samples.now k) }
-    ensures one { result ≤ 1 }
-{
-    if k >= plane.len() {
-        return 1;
-    }
-    if is_sample(plane[k], samples[k]) {
-        0
-    } else {
-        1
-    }
+    plane.get(k).copied() != Some(i32::from(sample))
 }
 
 // How many samples the plane does not have in their places.
 pub fn count_lost(plane: &[i32], samples: &[u16]) -> usize
     ensures { result ≡ count (lost plane.now samples.now) (length samples.now) }
 {
-    let mut count = 0;
-    for k in 0..samples.len() {
-        count += lost_at(plane, samples, k);
-    }
-    count
+    samples
+        .iter()
+        .enumerate()
+        .filter(|(k, sample)| is_lost(plane, *k, **sample))
+        .count()
 }

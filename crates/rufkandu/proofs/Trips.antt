@@ -1,5 +1,5 @@
 -- The steps of the way down and of the way up. Assumes nothing.
-use Rattle.std.proofs.Common.{◌≡◌, ℕ, ◌+◌, ◌-◌, ◌<◌, ◌≤◌, Bool, true, cond, not, ◌&&◌, eqb, leb, List, length, ℤ, sym, ap, ◌∙◌, arith, eq-eqb}
+use Rattle.std.proofs.Common.{◌≡◌, ℕ, ◌-◌, ◌≤◌, Bool, true, cond, not, ◌&&◌, eqb, leb, List, length, ℤ, sym, ap, ◌∙◌, eq-eqb}
 use Rattle.std.proofs.lemmas.Bool.{le-leb}
 use Rattle.geometry.specs.declared.corners.Corners.{Corners}
 use Rattle.geometry.specs.Frames.{same_frame}
@@ -11,7 +11,7 @@ use Rattle.lifting.specs.Meanings.{Lawful}
 use Rattle.lifting.specs.Passes.{Breaks}
 use Rattle.lifting.specs.Stages.{Plane, stage_down, stage_up, stage_answer, after, transform}
 use Rattle.lifting.proofs.StageLaws.{transform_next, transform_top, transform_plane, up_down}
-use Rattle.rufkandu.specs.Bands.{by_mean}
+use Rattle.plates.specs.Bands.{by_mean}
 
 pass : {X : Type 0} (w x y z : X) (a b d : Bool) → a ≡ true → b ≡ true → d ≡ true → cond (not a) x (cond (not b) y (cond (not d) z w)) ≡ w
 pass w x y z a b d p q r = rw p (rw q (rw r))
@@ -28,32 +28,25 @@ admits c home r n long some fine same =
 lawful : Lawful by_mean
 lawful = record { kind = number_lawful; step = mean_lawful }
 
-module _ (c home : Corners) (broken : Breaks) (same : same_frame c home ≡ true) (levels : ℕ) (all : levels ≡ c.levels) (xs : List ℤ) where
-  pub further_down : (n : ℕ) (plane last : List ℤ) → n < levels → length plane ≡ plane_length c → plane ≡ transform by_mean c broken (levels - n) xs →
-      last ≡ after (stage_answer c home (levels - n) (length plane)) (stage_down by_mean c broken (levels - n) plane) plane →
-      last ≡ transform by_mean c broken (levels - (n + 1)) xs
-  further_down n plane last more long come e =
-      let r = levels - n in
-      let less : r - 1 ≡ levels - (n + 1) = omega arith in
+module _ (c home : Corners) (broken : Breaks) (same : same_frame c home ≡ true) (xs : List ℤ) where
+  pub further_down : (r : ℕ) (plane last : List ℤ) → 1 ≤ r → r ≤ c.levels → length plane ≡ plane_length c → plane ≡ transform by_mean c broken r xs →
+      last ≡ after (stage_answer c home r (length plane)) (stage_down by_mean c broken r plane) plane →
+      last ≡ transform by_mean c broken (r - 1) xs
+  further_down r plane last some fine long come e =
       e
-      ∙ ap (λ (a : Answer (Unit {0})). after a (stage_down by_mean c broken r plane) plane) (admits c home r (length plane) long (omega arith) (omega (arith, all)) same)
+      ∙ ap (λ (a : Answer (Unit {0})). after a (stage_down by_mean c broken r plane) plane) (admits c home r (length plane) long some fine same)
       ∙ ap (stage_down by_mean c broken r) come
-      ∙ sym (transform_next by_mean c broken r xs (omega arith) (omega (arith, all)))
-      ∙ ap (λ (s : ℕ). transform by_mean c broken s xs) less
+      ∙ sym (transform_next by_mean c broken r xs some fine)
 
-  pub further_up : (n : ℕ) (plane last : List ℤ) → Plane by_mean c xs → n < levels → length plane ≡ plane_length c → plane ≡ transform by_mean c broken n xs →
-      last ≡ after (stage_answer c home (n + 1) (length plane)) (stage_up by_mean c broken (n + 1) plane) plane →
-      last ≡ transform by_mean c broken (n + 1) xs
-  further_up n plane last pl more long come e =
-      let r = n + 1 in
-      let less : n ≡ r - 1 = omega arith in
+  pub further_up : (r : ℕ) (plane last : List ℤ) → Plane by_mean c xs → 1 ≤ r → r ≤ c.levels → length plane ≡ plane_length c → plane ≡ transform by_mean c broken (r - 1) xs →
+      last ≡ after (stage_answer c home r (length plane)) (stage_up by_mean c broken r plane) plane →
+      last ≡ transform by_mean c broken r xs
+  further_up r plane last pl some fine long come e =
       e
-      ∙ ap (λ (a : Answer (Unit {0})). after a (stage_up by_mean c broken r plane) plane) (admits c home r (length plane) long (omega arith) (omega (arith, all)) same)
-      ∙ ap (stage_up by_mean c broken r) (come ∙ ap (λ (s : ℕ). transform by_mean c broken s xs) less ∙ transform_next by_mean c broken r xs (omega arith) (omega (arith, all)))
+      ∙ ap (λ (a : Answer (Unit {0})). after a (stage_up by_mean c broken r plane) plane) (admits c home r (length plane) long some fine same)
+      ∙ ap (stage_up by_mean c broken r) (come ∙ transform_next by_mean c broken r xs some fine)
       ∙ up_down by_mean lawful c broken r (transform by_mean c broken r xs) (transform_plane by_mean lawful c broken r xs pl)
 
-  pub top : (s : ℕ) → s ≡ levels → transform by_mean c broken s xs ≡ xs
-  top s e = ap (λ (t : ℕ). transform by_mean c broken t xs) (e ∙ all) ∙ transform_top by_mean c broken xs
-
-  pub none_down : xs ≡ transform by_mean c broken (levels - 0) xs
-  none_down = sym (let e : levels - 0 ≡ levels = omega arith in top (levels - 0) e)
+-- the transform to the highest stage changes nothing
+pub top : (c : Corners) (broken : Breaks) (xs : List ℤ) (s : ℕ) → s ≡ c.levels → transform by_mean c broken s xs ≡ xs
+top c broken xs s e = ap (λ (t : ℕ). transform by_mean c broken t xs) e ∙ transform_top by_mean c broken xs

@@ -1,12 +1,13 @@
 -- What is said of the words of a command line. Assumes nothing.
-use Rattle.std.specs.Prelude.{◌≡◌, ℕ, ◌<◌, List, length, Ok, Err, codes, Result, ◌≢◌, slice_index_or}
+use Rattle.std.specs.Prelude.{◌≡◌, ℕ, ◌<◌, ◌⊎◌, List, length, drop, Ok, Err, codes, Result, ◌≢◌, slice_index_or}
 use Rattle.std.specs.Borrow.{Bor}
-use Rattle.rufkandu.specs.declared.arguments.Job.{Job}
-use Rattle.rufkandu.specs.declared.arguments.Usage.{Usage}
-use Rattle.rufkandu.specs.declared.arguments.Usage.TheVariants.{NoCommand, OtherCommand, NoPlate, NoLevels, OtherFlag, NoValue, NotNumber}
-
-abbrev pub Words : Type 0
-Words = List (Bor (List ℕ))
+use Rattle.tiles.specs.declared.state.State.{State}
+use Rattle.commands.specs.declared.arguments.Action.TheVariants.{Check as ForCheck}
+use Rattle.commands.specs.declared.arguments.Job.{Job}
+use Rattle.commands.specs.declared.arguments.Usage.{Usage}
+use Rattle.commands.specs.declared.arguments.Usage.TheVariants.{NoCommand, OtherCommand, NoScript, NoPlate, NoLevels, OtherFlag, NoValue, NotNumber}
+use Rattle.commands.specs.Words.{Words}
+use Rattle.commands.specs.Commands.{Plated, Unplated}
 
 -- w is word k
 pub record IsWord (ws : Words) (k : ℕ) (w : Bor (List ℕ)) : Type 0 where
@@ -21,20 +22,11 @@ Begins ws = (w : Bor (List ℕ)) × IsWord ws 0 w × (w.now ≡ codes "check")
 abbrev pub HasPlate : Words → Bor (List ℕ) → Type 0
 HasPlate ws p = Begins ws × IsWord ws 1 p
 
--- only a fault of the flags
-abbrev pub OfFlags : Usage → Type 0
-OfFlags NoCommand = ⊥
-OfFlags (OtherCommand w) = ⊥
-OfFlags NoPlate = ⊥
-OfFlags NoLevels = ⊥
-OfFlags (OtherFlag w) = Unit {0}
-OfFlags (NoValue w) = Unit {0}
-OfFlags (NotNumber f w) = Unit {0}
-
--- what a fault tells of the words
+-- what a fault tells of the words; no script is ever missing
 abbrev pub FaultOf : Words → Usage → Type 0
 FaultOf ws NoCommand = length ws ≡ 0
 FaultOf ws (OtherCommand w) = IsWord ws 0 w × (w.now ≢ codes "check")
+FaultOf ws NoScript = ⊥
 FaultOf ws NoPlate = Begins ws × (length ws ≡ 1)
 FaultOf ws NoLevels = (p : Bor (List ℕ)) × HasPlate ws p
 FaultOf ws (OtherFlag w) = (p : Bor (List ℕ)) × HasPlate ws p
@@ -45,3 +37,8 @@ FaultOf ws (NotNumber f w) = (p : Bor (List ℕ)) × HasPlate ws p
 abbrev pub ParseOf : Words → Result Job Usage → Type 0
 ParseOf ws (Ok job) = HasPlate ws job.plate
 ParseOf ws (Err u) = FaultOf ws u
+
+-- the words after the first are a plate and its flags, which the job has; or what is wrong with them
+abbrev pub CheckOf : Words → Result Job Usage → Type 0
+CheckOf ws (Ok job) = (w : State) × Plated ForCheck (drop 1 ws) job w
+CheckOf ws (Err u) = (Begins ws → ⊥) ⊎ Unplated ForCheck (drop 1 ws) u

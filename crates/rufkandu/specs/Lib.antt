@@ -1,4 +1,2 @@
 pub mod Bands
 pub mod Commands
-pub mod Tallies
-pub mod Tiles

@@ -1,60 +1,41 @@
 // Why a run stops.
-use crate::arguments::Usage;
+// What both programs have is the same text in both.
+use crate::arguments::CheckUsage;
+use commands::arguments::Usage;
 use geometry::refusal::Refusal;
 use netpbm::Fault;
 use std::alloc::AllocError;
-use std::{fmt, io};
+use std::io;
+use thiserror::Error;
 
-#[derive(Drop)]
+#[derive(Debug, Drop, Error)]
 pub enum Failure<'a> {
-    Arguments(Usage<'a>),
+    #[error("{0}")]
+    Arguments(CheckUsage<'a>),
     // A file that cannot be read, by its name.
+    #[error("{0}: {1}")]
     Unreadable(&'a str, io::Error),
     // A file that is no picture, by its name.
+    #[error("{0}: {1}")]
     Picture(&'a str, Fault),
     // A label map, by its name, of another size than the plate.
+    #[error("{0}: the label map has another size than the plate")]
     OtherSize(&'a str),
     // A tile whose frame is refused.
-    Tile(Refusal),
-    NoMemory,
+    #[error(transparent)]
+    Tile(#[from] Refusal),
+    #[error("there is not enough memory")]
+    Memory(#[from(alloc)] AllocError),
     // Standard output takes no more.
-    Output(io::Error),
+    #[error("standard output: {0}")]
+    Output(#[from] io::Error),
     // So many samples did not come back.
+    #[error("{0} samples did not come back")]
     Differs(usize),
 }
 
-impl From<Refusal> for Failure<'_> {
-    fn from(why: Refusal) -> Self {
-        Failure::Tile(why)
-    }
-}
-
-impl From<AllocError> for Failure<'_> {
-    fn from(_e: AllocError) -> Self {
-        Failure::NoMemory
-    }
-}
-
-impl From<io::Error> for Failure<'_> {
-    fn from(e: io::Error) -> Self {
-        Failure::Output(e)
-    }
-}
-
-impl fmt::Display for Failure<'_> {
-    fn fmt<W: fmt::Write>(&self, f: &mut fmt::Formatter<W>) -> fmt::Result {
-        match self {
-            Failure::Arguments(usage) => write!(f, "{usage}"),
-            Failure::Unreadable(name, e) => write!(f, "{name}: {e}"),
-            Failure::Picture(name, fault) => write!(f, "{name}: {fault}"),
-            Failure::OtherSize(name) => write!(
-                f,
-                "{name}: the label map has another size than the plate"
-            ),
-            Failure::Tile(why) => write!(f, "{why}"),
-            Failure::NoMemory => f.write_str("there is not enough memory"),
-            Failure::Output(e) => write!(f, "standard output: {e}"),
-            Failure::Differs(n) => write!(f, "{n} samples did not come back"),
-        }
+impl<'a> From<Usage<'a>> for Failure<'a> {
+    fn from(usage: Usage<'a>) -> Self {
+        Failure::Arguments(CheckUsage(usage))
     }
 }

@@ -1,10 +1,9 @@
 // What the program does on examples.
-use crate::arguments::parse;
-use crate::work::{count_lost, frame_at, numbers, there_and_back};
+use crate::arguments::{CheckUsage, parse};
+use crate::work::there_and_back;
 use breaks::labels::LabelMap;
 use geometry::frame::Frame;
-use geometry::point::Point;
-use netpbm::{Window, window_at};
+use plates::work::{count_lost, numbers};
 use std::alloc::{AllocError, Global};
 use std::test::Fail;
 
@@ -13,11 +12,14 @@ fn said(heap: Global, words: &[&str]) -> Result<String, AllocError> {
     match parse(words) {
         Ok(job) => {
             let levels = job.levels;
-            let x = job.x;
-            let y = job.y;
+            let x = job.at.x;
+            let y = job.at.y;
             format!(in heap; "{levels} levels at {x} {y}")
         }
-        Err(usage) => format!(in heap; "{usage}"),
+        Err(usage) => {
+            let usage = CheckUsage(usage);
+            format!(in heap; "{usage}")
+        }
     }
 }
 
@@ -52,23 +54,6 @@ fn arguments(rt: HostRuntime) -> Result<(), Fail> {
         said(heap, &["check", "p", "--at", "7", "9", "--levels", "2"])?.as_str(),
         "2 levels at 7 9"
     );
-    Ok(())
-}
-
-#[test]
-fn two_tiles(rt: HostRuntime) -> Result<(), Fail> {
-    let last = Window {
-        x: 512,
-        y: 0,
-        width: 1,
-        height: 1,
-    };
-    assert_eq!(rt; window_at(513, 1, 512, 1, 0), Some(last));
-    assert_eq!(rt; window_at(513, 1, 512, 2, 0), None);
-    let c = frame_at(Point { x: 3, y: 5 }, 2, last)?.corners();
-    assert_eq!(rt; c.x0, 515);
-    assert_eq!(rt; c.x1, 516);
-    assert_eq!(rt; c.y1, 6);
     Ok(())
 }
 

@@ -1,65 +1,86 @@
 // The files of a run.
+// All but `load_script` stands in both programs.
 use crate::failure::Failure;
 use commands::arguments::Job;
 use commands::script::{Unread, calls_of};
+use geometry::frame::Frame;
+use geometry::refusal::Refusal;
 use netpbm::{Raster, Window, read};
-use std::alloc::Global;
+use plates::work::frame_at;
+use std::alloc::{AllocError, Global};
 use std::fs;
 use tiles::Call;
 
-// The picture in a file.
-pub fn load<'a>(rt: &HostRuntime, name: &'a str) -> Result<Raster, Failure<'a>> {
-    let bytes = match fs::read(rt, name) {
-        Ok(bytes) => bytes,
-        Err(e) => return Err(Failure::Unreadable(name, e)),
-    };
-    match read(rt.alloc(), bytes.as_slice()) {
-        Ok(raster) => Ok(raster),
-        Err(fault) => Err(Failure::Picture(name, fault)),
+// A picture, with the name of its file.
+#[derive(Drop)]
+pub struct Picture<'a> {
+    name: &'a str,
+    pub raster: Raster,
+}
+
+impl<'a> Picture<'a> {
+    fn load(rt: &HostRuntime, name: &'a str) -> Result<Picture<'a>, Failure<'a>> {
+        let bytes = fs::read(rt, name).map_err(|e| Failure::Unreadable(name, e))?;
+        read(rt.alloc(), bytes.as_slice())
+            .map(|raster| Picture { name, raster })
+            .map_err(|fault| Failure::Picture(name, fault))
+    }
+
+    // The samples at a window.
+    pub fn window(&self, heap: Global, w: Window) -> Result<Vec<u16>, Failure<'a>> {
+        self.raster
+            .window(heap, w)
+            .map_err(|fault| Failure::Picture(self.name, fault))
+    }
+
+    fn is_as_large_as(&self, other: &Picture) -> bool {
+        self.raster.width() == other.raster.width() && self.raster.height() == other.raster.height()
     }
 }
 
-// The label map of a plate, where one is given.
-pub fn load_labels<'a>(
-    rt: &HostRuntime,
+// The plate of a job, and its label map where one is given.
+#[derive(Drop)]
+pub struct Plate<'a> {
     job: Job<'a>,
-    plate: &Raster,
-) -> Result<Option<Raster>, Failure<'a>> {
-    let Some(name) = job.labels else {
-        return Ok(None);
-    };
-    let labels = load(rt, name)?;
-    if labels.width() != plate.width() || labels.height() != plate.height() {
-        return Err(Failure::OtherSize(name));
-    }
-    Ok(Some(labels))
+    pub picture: Picture<'a>,
+    labels: Option<Picture<'a>>,
 }
 
-// The labels of a tile; without a label map all 0.
-pub fn tile_labels<'a>(
-    heap: Global,
-    job: Job<'a>,
-    labels: &Option<Raster>,
-    w: Window,
-) -> Result<Vec<u16>, Failure<'a>> {
-    match labels {
-        None => Ok(vec![in heap; 0u16; w.width.saturating_mul(w.height)]?),
-        Some(map) => match map.window(heap, w) {
-            Ok(part) => Ok(part),
-            Err(fault) => Err(Failure::Picture(job.labels.unwrap_or(""), fault)),
-        },
+impl<'a> Plate<'a> {
+    pub fn load(rt: &HostRuntime, job: Job<'a>) -> Result<Plate<'a>, Failure<'a>> {
+        let picture = Picture::load(rt, job.plate)?;
+        let labels = job.labels.map(|name| Picture::load(rt, name)).transpose()?;
+        if let Some(map) = &labels
+            && !map.is_as_large_as(&picture)
+        {
+            return Err(Failure::OtherSize(map.name));
+        }
+        Ok(Plate {
+            job,
+            picture,
+            labels,
+        })
+    }
+
+    // The frame of the tile at a window.
+    pub fn frame(&self, w: Window) -> Result<Frame, Refusal> {
+        frame_at(self.job.at, self.job.levels, w)
+    }
+
+    // The labels of a tile; without a label map all 0.
+    pub fn labels(&self, heap: Global, w: Window) -> Result<Vec<u16>, Failure<'a>> {
+        match &self.labels {
+            None => Ok(vec![in heap; 0u16; w.width.saturating_mul(w.height)]?),
+            Some(map) => map.window(heap, w),
+        }
     }
 }
 
 // The calls of a script.
 pub fn load_script<'a>(rt: &HostRuntime, name: &'a str) -> Result<Vec<Call<i32>>, Failure<'a>> {
-    let text = match fs::read_to_string(rt, name) {
-        Ok(text) => text,
-        Err(e) => return Err(Failure::Unreadable(name, e)),
-    };
-    match calls_of(rt.alloc(), text.as_str()) {
-        Ok(calls) => Ok(calls),
-        Err(Unread::NoCall(line)) => Err(Failure::Script(name, line)),
-        Err(Unread::NoMemory) => Err(Failure::NoMemory),
-    }
+    let text = fs::read_to_string(rt, name).map_err(|e| Failure::Unreadable(name, e))?;
+    calls_of(rt.alloc(), text.as_str()).map_err(|e| match e {
+        Unread::NoCall(line) => Failure::Script(name, line),
+        Unread::NoMemory => Failure::from(AllocError),
+    })
 }

@@ -1,4 +1,5 @@
 // rufkandu: takes depth plates through the transform, cut at the borders of their label maps.
+// What both programs have is the same text in both.
 #![tactic(auto)]
 
 mod check;
@@ -12,27 +13,22 @@ use std::alloc::{AllocError, Global};
 use std::process::ExitCode;
 use std::{env, io};
 
+// The words of the command line, the program's name first.
+fn words(rt: &HostRuntime) -> io::Result<Vec<String>> {
+    Ok(env::args(rt)?.collect(rt.alloc())?)
+}
+
 // The words after the program's name.
 fn after_name<'a>(heap: Global, words: &'a [String]) -> Result<Vec<&'a str>, AllocError> {
-    let mut texts = Vec::new(heap);
-    for word in words.iter().skip(1) {
-        texts.push(word.as_str())?;
-    }
-    Ok(texts)
+    words.iter().skip(1).map(|word| word.as_str()).collect(heap)
 }
 
 fn run<'a>(rt: &HostRuntime, words: &'a [String]) -> Result<(), Failure<'a>> {
     let texts = after_name(rt.alloc(), words)?;
-    match parse(texts.as_slice()) {
-        Ok(Command::Check(job)) => check::check(rt, job),
-        Ok(Command::Replay(replay)) => replay::replay(rt, replay),
-        Err(usage) => Err(Failure::Arguments(usage)),
+    match parse(texts.as_slice())? {
+        Command::Check(job) => check::check(rt, job),
+        Command::Replay(replay) => replay::replay(rt, replay),
     }
-}
-
-// The words of the command line, the program's name first.
-fn words(rt: &HostRuntime) -> io::Result<Vec<String>> {
-    Ok(env::args(rt)?.collect(rt.alloc())?)
 }
 
 fn main(rt: HostRuntime) -> ExitCode {

@@ -1,12 +1,11 @@
 // rufkandu replay: plays the calls of a script on a plate's one tile, and says what each came to.
 use crate::failure::Failure;
-use crate::files::{load, load_labels, load_script, tile_labels};
+use crate::files::{Plate, load_script};
 use breaks::labels::LabelMap;
 use commands::arguments::Replay;
 use commands::transcript::{Rows, Transcript};
-use geometry::point::Point;
 use netpbm::{Raster, Window};
-use plates::work::{frame_at, numbers};
+use plates::work::numbers;
 use samples::mean::MeanStep;
 use tiles::play;
 
@@ -23,14 +22,14 @@ fn whole(picture: &Raster) -> Window {
 // The whole replay.
 pub fn replay<'a>(rt: &HostRuntime, run: Replay<'a>) -> Result<(), Failure<'a>> {
     let heap = rt.alloc();
-    let job = run.job;
     let calls = load_script(rt, run.script)?;
-    let plate = load(rt, job.plate)?;
-    let labels = load_labels(rt, job, &plate)?;
-    let frame = frame_at(Point { x: job.x, y: job.y }, job.levels, whole(&plate))?;
-    let labels = tile_labels(heap, job, &labels, whole(&plate))?;
+    let plate = Plate::load(rt, run.job)?;
+    let raster = &plate.picture.raster;
+    let w = whole(raster);
+    let frame = plate.frame(w)?;
+    let labels = plate.labels(heap, w)?;
     let source = LabelMap::new(frame, labels.as_slice())?;
-    let mut plane = numbers(heap, plate.samples())?;
+    let mut plane = numbers(heap, raster.samples())?;
     let events = play(
         heap,
         frame,
@@ -50,7 +49,7 @@ pub fn replay<'a>(rt: &HostRuntime, run: Replay<'a>) -> Result<(), Failure<'a>> 
     }
     let rows = Rows {
         plane: plane.as_slice(),
-        width: plate.width(),
+        width: raster.width(),
     };
     print!(rt; "{rows}")?;
     Ok(())

@@ -31,11 +31,7 @@ impl<K: Sample> Step for CarryStep<K> {
     fn forecast(&self, a: Option<K>, b: Option<K>) -> K
         ensures { result ≡ (carries K.Sample.kind).forecast a b }
     {
-        match (a, b) {
-            (Some(a), _) => a,
-            (None, Some(b)) => b,
-            (None, None) => K::nothing(),
-        }
+        a.or(b).unwrap_or(K::nothing())
     }
 
     fn correction(&self, _a: Option<K>, _b: Option<K>) -> K

@@ -1,5 +1,4 @@
 ghost use Rattle.std.specs.Prelude.{◌≡◌};
-ghost use Rattle.std.specs.Option.{option_map};
 ghost use Rattle.samples.specs.Means.{half as half_of, quarter as quarter_of, means, flow_means};
 ghost use Rattle.samples.specs.MeanLaws.{mean_lawful, flow_mean_lawful};
 
@@ -35,38 +34,19 @@ impl Step for MeanStep {
     fn forecast(&self, a: Option<i32>, b: Option<i32>) -> i32
         ensures { result ≡ means.forecast a b }
     {
-        half(a.unwrap_or(b.unwrap_or(0)), b.unwrap_or(a.unwrap_or(0)))
+        half(a.or(b).unwrap_or(0), b.or(a).unwrap_or(0))
     }
 
     fn correction(&self, a: Option<i32>, b: Option<i32>) -> i32
         ensures { result ≡ means.correction a b }
     {
-        quarter(a.unwrap_or(b.unwrap_or(0)), b.unwrap_or(a.unwrap_or(0)))
+        quarter(a.or(b).unwrap_or(0), b.or(a).unwrap_or(0))
     }
 }
 
 // The mean step of flows: that of numbers on each part.
 #[derive(Clone, Copy)]
 pub struct FlowMeanStep;
-
-// A part of an end, if it is present.
-fn dx_of(end: Option<Flow>) -> Option<i32>
-    ensures { result ≡ option_map (λ e. e.dx) end }
-{
-    match end {
-        Some(e) => Some(e.dx),
-        None => None,
-    }
-}
-
-fn dy_of(end: Option<Flow>) -> Option<i32>
-    ensures { result ≡ option_map (λ e. e.dy) end }
-{
-    match end {
-        Some(e) => Some(e.dy),
-        None => None,
-    }
-}
 
 impl Step for FlowMeanStep {
     type Sample = Flow;
@@ -79,8 +59,8 @@ impl Step for FlowMeanStep {
         ensures { result ≡ flow_means.forecast a b }
     {
         Flow {
-            dx: MeanStep.forecast(dx_of(a), dx_of(b)),
-            dy: MeanStep.forecast(dy_of(a), dy_of(b)),
+            dx: MeanStep.forecast(a.map(|e| e.dx), b.map(|e| e.dx)),
+            dy: MeanStep.forecast(a.map(|e| e.dy), b.map(|e| e.dy)),
         }
     }
 
@@ -88,8 +68,8 @@ impl Step for FlowMeanStep {
         ensures { result ≡ flow_means.correction a b }
     {
         Flow {
-            dx: MeanStep.correction(dx_of(a), dx_of(b)),
-            dy: MeanStep.correction(dy_of(a), dy_of(b)),
+            dx: MeanStep.correction(a.map(|e| e.dx), b.map(|e| e.dx)),
+            dy: MeanStep.correction(a.map(|e| e.dy), b.map(|e| e.dy)),
         }
     }
 }

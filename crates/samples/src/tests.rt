@@ -16,7 +16,10 @@ fn single_end_counts_for_both(rt: HostRuntime) {
     assert_eq!(rt; MeanStep.correction(Some(2), None), 1);
     assert_eq!(rt; MeanStep.correction(None, None), 0);
     let flow = Flow { dx: -3, dy: 6 };
-    assert!(rt; FlowMeanStep.correction(Some(flow), None) == Flow { dx: -1, dy: 3 });
+    assert_eq!(rt;
+        FlowMeanStep.correction(Some(flow), None),
+        Flow { dx: -1, dy: 3 }
+    );
 }
 
 #[test]

@@ -1,4 +1,3 @@
-pub mod Stagings
 pub mod Outcomes
 pub mod References
 pub mod Sides

@@ -1,38 +1,22 @@
 -- Two tiles that are alike on one side of a closed border stay alike there. Assumes nothing.
-use Rattle.std.proofs.Common.{◌≡◌, ℕ, ◌+◌, ◌<◌, Bool, true, false, not, eqb, ◌≢◌, ◌⊎◌, List, [], ◌∷◌, length, get_or, set, Some, None, Option, sym, refl, ap, ◌∙◌, subst, subst₂, inl, inr, arith, length-set, get_or-set_other, get_or-set_same}
-use Rattle.std.proofs.lemmas.Bool.{cases_eq, eqb-true, true≢false, false≢true}
+use Rattle.std.proofs.Common.{◌≡◌, ℕ, ◌+◌, ◌<◌, Bool, true, false, cond, not, eqb, List, [], ◌∷◌, length, get_or, set, Some, Option, sym, refl, ap, ◌∙◌, subst, subst₂, inl, inr, length-set, get_or-set_other, get_or-set_same}
+use Rattle.std.proofs.lemmas.Bool.{cases_eq, cases_Bool, both_ways, eqb-true, not-false}
 use Rattle.geometry.specs.declared.corners.Corners.{Corners}
 use Rattle.geometry.specs.declared.point.Point.{Point}
-use Rattle.geometry.specs.Frames.{same_frame}
 use Rattle.geometry.specs.Places.{inside, place, plane_length}
 use Rattle.geometry.specs.Refusals.{Answer, accepted, refused}
 use Rattle.geometry.proofs.Points.{places}
 use Rattle.lifting.specs.Borders.{Sides, Closed}
 use Rattle.lifting.specs.Meanings.{Meaning}
 use Rattle.lifting.specs.Passes.{Breaks, on_point}
-use Rattle.lifting.proofs.StageLaws.{Alike, down_alike, up_alike, on_side, side_spreads, alike_from, alike_to, same_side, same_is}
+use Rattle.lifting.proofs.StageLaws.{Alike, down_alike, up_alike, on_side, side_spreads, alike_from, alike_to, same_side, same_is, is_same}
 use Rattle.tiles.specs.declared.call.Call.{Call}
 use Rattle.tiles.specs.declared.call.Call.TheVariants.{Put, Read, Begin, Down, Up, Finish}
 use Rattle.tiles.specs.declared.state.State.{State}
 use Rattle.tiles.specs.Law.{RunsStayApart}
 use Rattle.tiles.specs.Runs.{Run, AlikeCall, AlikeCalls, AlikeAnswer, AlikeSeen, AlikeRuns}
-use Rattle.tiles.specs.Tiles.{Seen, Moment, either, opened, Called}
-use Rattle.tiles.proofs.Outcomes.{wrong_length, said, placing, staging, outcome, comes_to}
-
-same_or_not : (a b : Bool) → (a ≡ b) ⊎ (a ≢ b)
-same_or_not true true = inl refl
-same_or_not true false = inr true≢false
-same_or_not false true = inr false≢true
-same_or_not false false = inl refl
-
-placing_long : (a b : Bool) → placing (not a) b ≡ accepted tt → a ≡ true
-placing_long true b e = refl
-placing_long false b e = absurd (let z : ◌≡◌ {A = ℕ} 0 1 = cc in omega arith)
-
-placing_open : (a b : Bool) → placing a (not b) ≡ accepted tt → b ≡ true
-placing_open true b e = absurd (let z : ◌≡◌ {A = ℕ} 0 1 = cc in omega arith)
-placing_open false true e = refl
-placing_open false false e = absurd (let z : ◌≡◌ {A = ℕ} 0 1 = cc in omega arith)
+use Rattle.tiles.specs.Tiles.{Seen, Moment, either, point_answer, move_answer, sample_answer, plain, sampled, opened, Called}
+use Rattle.tiles.proofs.Outcomes.{passes, outcome, comes_to}
 
 module _ {K : Type 0} (m : Meaning K) (c home : Corners) (broken : Breaks) (side : Sides) (closed : Closed c broken side) (s : Bool) where
   abbrev Near : List K → List K → Type 0
@@ -43,6 +27,13 @@ module _ {K : Type 0} (m : Meaning K) (c home : Corners) (broken : Breaks) (side
     tiles : t.tile ≡ u.tile
     frame : t.tile.frame ≡ c
     near : Near t.plane u.plane
+
+  -- the tile of the frame at a stage and in a state, over a plane
+  abbrev at : ℕ → State → List K → Seen K
+  at r b xs = record { tile = record { frame = c; stage = r; state = b }; plane = xs }
+
+  twins : (r : ℕ) (b : State) (xs ys : List K) → Near xs ys → Twins (at r b xs) (at r b ys)
+  twins r b xs ys near = record { tiles = refl; frame = refl; near = near }
 
   near_set : (xs ys : List K) → Near xs ys → (p : Point) → inside c p ≡ true → (v w : K) → (side p ≡ s → v ≡ w) → length xs ≡ plane_length c → Near (set xs (place c p) v) (set ys (place c p) w)
   near_set xs ys near p i v w same long =
@@ -67,74 +58,53 @@ module _ {K : Type 0} (m : Meaning K) (c home : Corners) (broken : Breaks) (side
   abbrev come : Seen K → Call K → Moment K
   come = outcome m home broken
 
-  -- tiles of the frame at a stage and in a state, over two planes that are near
+  -- tiles at a stage and in a state, over two planes that are near
   module _ (r : ℕ) (b : State) (xs ys : List K) (near : Near xs ys) where
     abbrev left : Seen K
-    left = record { tile = record { frame = c; stage = r; state = b }; plane = xs }
+    left = at r b xs
 
     abbrev right : Seen K
-    right = record { tile = record { frame = c; stage = r; state = b }; plane = ys }
+    right = at r b ys
 
-    twins : Twins left right
-    twins = record { tiles = refl; frame = refl; near = near }
-
-    same_length : wrong_length left ≡ wrong_length right
-    same_length = ap (λ (n : ℕ). not (eqb n (plane_length c))) near.long
-
-    -- by a verdict that is the same for both
-    chosen : (a b : Answer (Unit {0})) (t u : Seen K) → a ≡ b → (a ≡ accepted tt → Twins t u) → Twins (either a t left) (either b u right)
-    chosen a b t u e h = subst (λ (x : Answer (Unit {0})). Twins (either a t left) (either x u right)) e (here a h)
+    -- by a verdict of the planes' length
+    chosen : (verdict : ℕ → Answer (Unit {0})) (t u : Seen K) → (verdict (length xs) ≡ accepted tt → Twins t u) →
+        (plain {K = K} (verdict (length xs)) ≡ plain (verdict (length ys))) × Twins (either (verdict (length xs)) t left) (either (verdict (length ys)) u right)
+    chosen verdict t u h = subst (λ (n : ℕ). (plain {K = K} (verdict (length xs)) ≡ plain (verdict n)) × Twins (either (verdict (length xs)) t left) (either (verdict n) u right)) near.long (refl, here (verdict (length xs)) h)
       where
         here : (a : Answer (Unit {0})) → (a ≡ accepted tt → Twins t u) → Twins (either a t left) (either a u right)
         here (accepted x) h = h refl
-        here (refused n) h = twins
+        here (refused n) h = twins r b xs ys near
 
     -- a sample that is read on the side is the same
-    reads : (p : Point) (a b : Answer (Unit {0})) → a ≡ b → (a ≡ accepted tt → inside c p ≡ true) →
-        AlikeAnswer side s (Read p) (said a (Some (get_or xs (place c p) m.kind.nothing))) (said b (Some (get_or ys (place c p) m.kind.nothing)))
-    reads p a b e h = subst (λ (x : Answer (Unit {0})). AlikeAnswer side s (Read p) (said a (Some (get_or xs (place c p) m.kind.nothing))) (said x (Some (get_or ys (place c p) m.kind.nothing)))) e (here a h)
+    reads : (p : Point) → AlikeAnswer side s (Read p) (sampled (sample_answer m.kind.nothing c xs p)) (sampled (sample_answer m.kind.nothing c ys p))
+    reads p = subst (λ (n : ℕ). AlikeAnswer side s (Read p) (sampled (sample_answer m.kind.nothing c xs p)) (sampled (point_answer c n p (get_or ys (place c p) m.kind.nothing)))) near.long
+        (here (not (eqb (length xs) (plane_length c))) (inside c p) (alike_to c side s m xs ys broken near p))
       where
-        here : (a : Answer (Unit {0})) → (a ≡ accepted tt → inside c p ≡ true) →
-            AlikeAnswer side s (Read p) (said a (Some (get_or xs (place c p) m.kind.nothing))) (said a (Some (get_or ys (place c p) m.kind.nothing)))
-        here (accepted x) h = elim (same_or_not (side p) s) [
-          | inl on ↦ inl (ap (λ (v : K). let r : Answer (Option K) = accepted (Some v) in r) (alike_to c side s m xs ys broken near p (h refl) on))
-          | inr off ↦ inr (off, (_, refl), (_, refl))
+        here : (a i : Bool) {v w : K} → (i ≡ true → side p ≡ s → v ≡ w) →
+            AlikeAnswer side s (Read p) (sampled (cond a (refused 4) (cond (not i) (refused 9) (accepted v)))) (sampled (cond a (refused 4) (cond (not i) (refused 9) (accepted w))))
+        here true i h = inl refl
+        here false false h = inl refl
+        here false true h = elim (cases_Bool (same_side (side p) s)) [
+          | inl on ↦ inl (ap (λ (v : K). let r : Answer (Option K) = accepted (Some v) in r) (h refl (same_is (side p) s on)))
+          | inr off ↦ inr ((λ e. both_ways (same_side (side p) s) off (is_same (side p) s e)), (_, refl), (_, refl))
         ]
-        here (refused n) h = inl refl
 
-    placed : (p : Point) → placing (wrong_length left) (not (inside c p)) ≡ placing (wrong_length right) (not (inside c p))
-    placed p = ap (λ (b : Bool). placing b (not (inside c p))) same_length
+    -- what is alike of the call e is alike of d, which is that call
+    along : (call d e : Call K) → d ≡ e → Out call (come left call) (come right e) → Out call (come left call) (come right d)
+    along call d e is = subst (λ (x : Call K). Out call (come left call) (come right x)) (sym is)
 
     both : (call d : Call K) → AlikeCall side s call d → Out call (come left call) (come right d)
     unfolding outcome
-    both (Put p v) d (w, e, same) =
-        subst (λ (x : Call K). Out (Put p v) (come left (Put p v)) (come right x)) (sym e) (
-          ap (λ (a : Answer (Unit {0})). said {K = K} a None) (placed p),
-          chosen _ _ _ _ (placed p) (λ ok. record {
-            tiles = refl;
-            frame = refl;
-            near = near_set xs ys near p (placing_open (wrong_length left) (inside c p) ok) v w same (eqb-true (length xs) (plane_length c) (placing_long (eqb (length xs) (plane_length c)) (not (inside c p)) ok));
-          }),
-        )
-    both (Read p) d e =
-        subst (λ (x : Call K). Out (Read p) (come left (Read p)) (come right x)) (sym e)
-        (reads p _ _ (placed p) (placing_open (wrong_length left) (inside c p)), chosen _ _ _ _ (placed p) (λ ok. twins))
-    both Begin d e = subst (λ (x : Call K). Out Begin (come left Begin) (come right x)) (sym e) (refl, record { tiles = refl; frame = refl; near = near })
-    both Down d e =
-        let v = ap (λ (b : Bool). staging b (eqb r 0) (not (same_frame c home))) same_length in
-        subst (λ (x : Call K). Out Down (come left Down) (come right x)) (sym e) (
-          ap (λ (a : Answer (Unit {0})). said {K = K} a None) v,
-          chosen _ _ _ _ v (λ ok. record { tiles = refl; frame = refl; near = down_alike m c broken (on_side c side s) r (side_spreads c side s broken closed r) xs ys near }),
-        )
-    both Up d e =
-        let v = ap (λ (b : Bool). staging b (eqb r c.levels) (not (same_frame c home))) same_length in
-        subst (λ (x : Call K). Out Up (come left Up) (come right x)) (sym e) (
-          ap (λ (a : Answer (Unit {0})). said {K = K} a None) v,
-          chosen _ _ _ _ v (λ ok. record { tiles = refl; frame = refl; near = up_alike m c broken (on_side c side s) (r + 1) (side_spreads c side s broken closed (r + 1)) xs ys near }),
-        )
-    both Finish d e =
-        subst (λ (x : Call K). Out Finish (come left Finish) (come right x)) (sym e)
-        (refl, chosen _ _ _ _ refl (λ ok. record { tiles = refl; frame = refl; near = near }))
+    both (Put p v) d (w, e, same) = along (Put p v) _ _ e (chosen (λ n. point_answer c n p tt) _ _ (λ ok.
+        let long = passes _ _ _ _ ok in
+        twins _ _ _ _ (near_set xs ys near p (not-false _ (passes _ _ _ _ long.1).0) v w same (eqb-true _ _ (not-false _ long.0)))))
+    both (Read p) d e = along (Read p) _ _ e (reads p, twins r b xs ys near)
+    both Begin d e = along Begin _ _ e (refl, twins _ _ _ _ near)
+    both Down d e = along Down _ _ e (chosen (λ n. move_answer c home n (eqb r 0)) _ _ (λ ok.
+        twins _ _ _ _ (down_alike m c broken (on_side c side s) r (side_spreads c side s broken closed r) xs ys near)))
+    both Up d e = along Up _ _ e (chosen (λ n. move_answer c home n (eqb r c.levels)) _ _ (λ ok.
+        twins _ _ _ _ (up_alike m c broken (on_side c side s) (r + 1) (side_spreads c side s broken closed (r + 1)) xs ys near)))
+    both Finish d e = along Finish _ _ e (chosen (λ n. cond (not (eqb r c.levels)) (refused 10) (accepted tt)) _ _ (λ ok. twins _ _ _ _ near))
 
   -- one call on each tile
   one_call : (t u : Seen K) → Twins t u → (call d : Call K) → AlikeCall side s call d → (n o : Moment K) → Called m home broken t call n → Called m home broken u d o → Out call n o

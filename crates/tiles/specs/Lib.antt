@@ -5,3 +5,4 @@ pub mod Runs
 pub mod AnyTiles
 pub mod Law
 pub mod Plays
+pub mod Texts

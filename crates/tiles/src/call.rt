@@ -1,7 +1,10 @@
 // The calls of a tile, as a list of calls has them. The points are finest points.
-use geometry::point::Point;
+ghost use Rattle.tiles.specs.Texts.{call_text};
 
-#[derive(Clone, Copy)]
+use geometry::point::Point;
+use std::fmt;
+
+#[derive(Clone, Copy, PartialEq, Eq, Debug)]
 pub enum Call<K> {
     Put(Point, K),
     Read(Point),
@@ -9,4 +12,19 @@ pub enum Call<K> {
     Down,
     Up,
     Finish,
+}
+
+impl<K: fmt::Display> fmt::Display for Call<K> {
+    ghost output = { call_text K.output };
+
+    fn fmt<W: fmt::Write>(&self, f: &mut fmt::Formatter<W>) -> fmt::Result {
+        match self {
+            Call::Put(at, v) => write!(f, "put {} {} {v}", at.x, at.y),
+            Call::Read(at) => write!(f, "read {} {}", at.x, at.y),
+            Call::Begin => f.write_str("begin"),
+            Call::Down => f.write_str("down"),
+            Call::Up => f.write_str("up"),
+            Call::Finish => f.write_str("finish"),
+        }
+    }
 }

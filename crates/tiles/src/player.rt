@@ -5,13 +5,12 @@ ghost use Rattle.geometry.specs.Refusals.{seen};
 ghost use Rattle.lifting.specs.Meanings.{meant};
 ghost use Rattle.tiles.specs.Law.{ServesLikeTheReference};
 ghost use Rattle.tiles.specs.Plays.{PlayOf};
-ghost use Rattle.tiles.specs.Tiles.{open_answer, plain, sampled};
-ghost use Rattle.tiles.specs.Views.{with_plane, finish_answer, finish_tile, reply_answer, event_told, told_of};
+ghost use Rattle.tiles.specs.Tiles.{open_answer};
+ghost use Rattle.tiles.specs.Views.{with_plane, event_told, told_of};
 ghost use Rattle.tiles.specs.AnyTiles.{any_tile, Makes};
 
 use crate::call::Call;
 use crate::event::{Event, Reply};
-use crate::returned::Returned;
 use crate::state::State;
 use crate::tile::{Bands, Picture};
 use crate::unplayed::Unplayed;
@@ -30,108 +29,72 @@ enum AnyTile {
     Bands(Bands),
 }
 
-fn open<K: Sample>(frame: Frame, state: State, plane: &[K]) -> Result<AnyTile, Refusal>
-    ensures { seen (λ t. with_plane (any_tile t) plane.now) result ≡ open_answer (corners_of frame) state plane.now }
-{
-    match state {
-        State::Picture => Ok(AnyTile::Picture(Picture::open(frame, plane)?)),
-        State::Bands => Ok(AnyTile::Bands(Bands::open(frame, plane)?)),
+impl AnyTile {
+    fn open<K: Sample>(frame: Frame, state: State, plane: &[K]) -> Result<AnyTile, Refusal>
+        ensures { seen (λ t. with_plane (any_tile t) plane.now) result ≡ open_answer (corners_of frame) state plane.now }
+    {
+        match state {
+            State::Picture => Picture::open(frame, plane).map(AnyTile::Picture),
+            State::Bands => Bands::open(frame, plane).map(AnyTile::Bands),
+        }
     }
-}
 
-// The reply of a call that tells nothing, and of one that tells a sample.
-fn plainly<K: Sample>(r: Result<(), Refusal>) -> Reply<K>
-    ensures { reply_answer result ≡ plain (seen (λ u. u) r) }
-{
-    match r {
-        Ok(_) => Reply::Accepted,
-        Err(why) => Reply::Refused(why),
+    // The tile after a call, and what the call answers. None where the tile's state does not allow the call; the plane is then as it was.
+    fn make<S: Step, B: BreakSource>(
+        self,
+        plane: &mut [S::Sample],
+        step: &S,
+        source: &B,
+        call: Call<S::Sample>,
+    ) -> Option<(AnyTile, Reply<S::Sample>)>
+        ensures { Makes (meant S.Sample.Sample.kind (S.Step.rule step.now)) (B.BreakSource.framed source.now) (B.BreakSource.broken source.now) (with_plane (any_tile self) plane.old) call plane.new result }
+    {
+        match (self, call) {
+            (AnyTile::Picture(p), Call::Put(at, v)) => {
+                let reply = p.put(plane, at, v.known()).map(|()| None);
+                Some((AnyTile::Picture(p), reply))
+            }
+            (AnyTile::Picture(p), Call::Read(at)) => {
+                let reply = p.read(plane, at).map(Some);
+                Some((AnyTile::Picture(p), reply))
+            }
+            (AnyTile::Picture(p), Call::Begin) => Some((AnyTile::Bands(p.begin()), Ok(None))),
+            (AnyTile::Bands(b), Call::Read(at)) => {
+                let reply = b.read(plane, at).map(Some);
+                Some((AnyTile::Bands(b), reply))
+            }
+            (AnyTile::Bands(mut b), Call::Down) => {
+                let reply = b.down(plane, step, source).map(|()| None);
+                Some((AnyTile::Bands(b), reply))
+            }
+            (AnyTile::Bands(mut b), Call::Up) => {
+                let reply = b.up(plane, step, source).map(|()| None);
+                Some((AnyTile::Bands(b), reply))
+            }
+            (AnyTile::Bands(b), Call::Finish) => match b.finish() {
+                Ok(p) => Some((AnyTile::Picture(p), Ok(None))),
+                Err(e) => Some((AnyTile::Bands(e.given), Err(e.why))),
+            },
+            _ => None,
+        }
     }
-}
 
-fn telling<K: Sample>(r: Result<K, Refusal>) -> Reply<K>
-    ensures { reply_answer result ≡ sampled (seen (λ v. v) r) }
-{
-    match r {
-        Ok(v) => Reply::Sample(v),
-        Err(why) => Reply::Refused(why),
-    }
-}
-
-// The tile that finish gave, with its reply.
-fn finishing<K: Sample>(r: Result<Picture, Returned<Bands>>) -> (AnyTile, Reply<K>)
-    ensures tile { any_tile result.0 ≡ finish_tile r }
-    ensures reply { reply_answer result.1 ≡ plain (finish_answer r) }
-{
-    match r {
-        Ok(p) => (AnyTile::Picture(p), Reply::Accepted),
-        Err(e) => (AnyTile::Bands(e.given), Reply::Refused(e.why)),
-    }
-}
-
-// One call on a tile: no reply where its state does not allow the call, and then the tile and the plane are as they were.
-fn make<S: Step, B: BreakSource>(
-    tile: AnyTile,
-    plane: &mut [S::Sample],
-    step: &S,
-    source: &B,
-    call: Call<S::Sample>,
-) -> (AnyTile, Option<Reply<S::Sample>>)
-    ensures { Makes (meant S.Sample.Sample.kind (S.Step.rule step.now)) (B.BreakSource.framed source.now) (B.BreakSource.broken source.now) (with_plane (any_tile tile) plane.old) call (with_plane (any_tile result.0) plane.new) result.1 }
-{
-    match tile {
-        AnyTile::Picture(p) => match call {
-            Call::Put(at, v) => {
-                let reply = plainly(p.put(plane, at, v.known()));
-                (AnyTile::Picture(p), Some(reply))
-            }
-            Call::Read(at) => {
-                let reply = telling(p.read(plane, at));
-                (AnyTile::Picture(p), Some(reply))
-            }
-            Call::Begin => (AnyTile::Bands(p.begin()), Some(Reply::Accepted)),
-            Call::Down => (AnyTile::Picture(p), None),
-            Call::Up => (AnyTile::Picture(p), None),
-            Call::Finish => (AnyTile::Picture(p), None),
-        },
-        AnyTile::Bands(mut b) => match call {
-            Call::Put(_, _) => (AnyTile::Bands(b), None),
-            Call::Read(at) => {
-                let reply = telling(b.read(plane, at));
-                (AnyTile::Bands(b), Some(reply))
-            }
-            Call::Begin => (AnyTile::Bands(b), None),
-            Call::Down => {
-                let reply = plainly(b.down(plane, step, source));
-                (AnyTile::Bands(b), Some(reply))
-            }
-            Call::Up => {
-                let reply = plainly(b.up(plane, step, source));
-                (AnyTile::Bands(b), Some(reply))
-            }
-            Call::Finish => {
-                let (tile, reply) = finishing(b.finish());
-                (tile, Some(reply))
-            }
-        },
-    }
-}
-
-// What is told of a call: its reply, and the tile's stage and state.
-fn event_of<K: Sample>(tile: &AnyTile, reply: Reply<K>) -> Event<K>
-    ensures { event_told result ≡ told_of (any_tile tile.now) (reply_answer reply) }
-{
-    match tile {
-        AnyTile::Picture(p) => Event {
-            reply,
-            stage: p.stage(),
-            state: State::Picture,
-        },
-        AnyTile::Bands(b) => Event {
-            reply,
-            stage: b.stage(),
-            state: State::Bands,
-        },
+    // What is told of a call that left the tile so: its reply, and the tile's stage and state.
+    fn event<K>(&self, reply: Reply<K>) -> Event<K>
+        ensures { event_told result ≡ told_of (any_tile self.now) (seen (λ o. o) reply) }
+    {
+        match self {
+            AnyTile::Picture(p) => Event {
+                reply,
+                stage: p.stage(),
+                state: State::Picture,
+            },
+            AnyTile::Bands(b) => Event {
+                reply,
+                stage: b.stage(),
+                state: State::Bands,
+            },
+        }
     }
 }
 
@@ -151,18 +114,15 @@ pub fn play<S: Step, B: BreakSource>(
     ensures law { ServesLikeTheReference (meant S.Sample.Sample.kind (S.Step.rule step.now)) (corners_of frame) (B.BreakSource.framed source.now) (B.BreakSource.broken source.now) }
 {
     all_known(plane);
-    let mut tile = open(frame, state, plane)?;
+    let mut tile = AnyTile::open(frame, state, plane)?;
     let mut events = Vec::with_capacity(heap, calls.len())?;
-    for n in 0..calls.len() {
-        let (next, reply) = make(tile, plane, step, source, calls[n]);
+    for call in calls {
+        let Some((next, reply)) = tile.make(plane, step, source, *call) else {
+            return Ok(events);
+        };
         tile = next;
-        match reply {
-            Some(reply) => {
-                // there is room: it was reserved
-                let _ = events.push(event_of(&tile, reply));
-            }
-            None => return Ok(events),
-        }
+        // There is room: it was reserved.
+        events.push(tile.event(reply)).unwrap();
     }
     Ok(events)
 }

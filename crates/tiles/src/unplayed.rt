@@ -5,7 +5,7 @@ ghost use Rattle.tiles.specs.declared.unplayed.Unplayed.TheVariants.{Refused as 
 use geometry::refusal::Refusal;
 use std::alloc::AllocError;
 
-#[derive(Clone, Copy)]
+#[derive(Clone, Copy, PartialEq, Eq, Debug)]
 pub enum Unplayed {
     // the tile, or its source, is refused
     Refused(Refusal),

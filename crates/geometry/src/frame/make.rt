@@ -12,11 +12,13 @@ use crate::lattice::Lattice;
 use crate::point::Point;
 use crate::refusal::Refusal;
 
-impl Frame {
-    // The frame with these numbers.
-    pub fn of(corners: Corners) -> Result<Frame, Refusal>
-        ensures { seen corners_of result ≡ frame_answer corners }
-    {
+// Five numbers are a frame's, or are refused.
+impl TryFrom<Corners> for Frame {
+    type Error = Refusal;
+
+    ghost try_from_gives = { λ c r. seen corners_of r ≡ frame_answer c };
+
+    fn try_from(corners: Corners) -> Result<Frame, Refusal> {
         if corners.x1 <= corners.x0 || corners.y1 <= corners.y0 {
             return Err(Refusal::EmptySide);
         }
@@ -31,46 +33,40 @@ impl Frame {
         }
         Ok(Frame { corners })
     }
+}
 
+impl Frame {
     pub fn new(x0: u32, y0: u32, x1: u32, y1: u32, levels: u32) -> Result<Frame, Refusal>
         ensures { seen corners_of result ≡ frame_answer (record { x0 = x0; y0 = y0; x1 = x1; y1 = y1; levels = levels }) }
     {
-        let corners = Corners {
+        Frame::try_from(Corners {
             x0,
             y0,
             x1,
             y1,
             levels,
-        };
-        Frame::of(corners)
+        })
     }
 
     // The frame's numbers.
     pub fn corners(&self) -> Corners
         ensures { result ≡ corners_of self.now }
     {
-        let numbers = self.corners;
-        numbers
+        self.corners
     }
 
     // The number of levels.
     pub fn levels(&self) -> u32
         ensures { result ≡ (corners_of self.now).levels }
     {
-        let levels = self.corners.levels;
-        levels
+        self.corners.levels
     }
 
     // Whether these are the numbers of the same frame.
     pub fn is_same(&self, other: Corners) -> bool
         ensures { result ≡ same_frame (corners_of self.now) other }
     {
-        let c = self.corners;
-        c.x0 == other.x0
-            && c.y0 == other.y0
-            && c.x1 == other.x1
-            && c.y1 == other.y1
-            && c.levels == other.levels
+        other == self.corners
     }
 
     // How far apart neighbouring points of resolution r stand among the finest points; 1 above the frame's levels.
@@ -83,22 +79,23 @@ impl Frame {
     }
 
     // The columns and the rows of resolution r, each with its start and end; all 0 above the frame's levels.
+    #[tactic(auto, unfolding(crate::specs::Frames::low, crate::specs::Frames::high, crate::specs::Frames::apart))]
     pub fn resolution(&self, r: u32) -> ((u32, u32), (u32, u32))
         ensures { result ≡ resolution_of (corners_of self.now) r }
     {
         if r > self.corners.levels {
             return ((0, 0), (0, 0));
         }
-        let n = self.apart(r);
-        let d = self.corners.levels - r;
         let c = self.corners;
+        let d = c.levels - r;
         (
-            (ceil_of(c.x0, n, d), ceil_of(c.x1, n, d)),
-            (ceil_of(c.y0, n, d), ceil_of(c.y1, n, d)),
+            (ceil_of(c.x0, d), ceil_of(c.x1, d)),
+            (ceil_of(c.y0, d), ceil_of(c.y1, d)),
         )
     }
 
     // How many samples a plane of the frame has.
+    #[tactic(auto, unfolding(crate::specs::Places::plane_length))]
     pub fn plane_length(&self) -> usize
         ensures { result ≡ plane_length (corners_of self.now) }
     {
@@ -112,10 +109,10 @@ impl Frame {
         ensures laws { Places (corners_of self.now) }
     {
         let c = self.corners;
-        if p.x < c.x0 || c.x1 <= p.x || p.y < c.y0 || c.y1 <= p.y {
+        if !(c.x0..c.x1).contains(&p.x) || !(c.y0..c.y1).contains(&p.y) {
             return Err(Refusal::Outside);
         }
-        Ok(self.place_of(p.x, p.y))
+        Ok(self.place_of(p))
     }
 
     // Whether a gap is one of the frame.
@@ -124,7 +121,7 @@ impl Frame {
     {
         let ((left, right), (top, bottom)) = self.resolution(g.resolution);
         let p = g.from;
-        if g.resolution == 0 || p.x < left || right <= p.x || p.y < top || bottom <= p.y {
+        if g.resolution == 0 || !(left..right).contains(&p.x) || !(top..bottom).contains(&p.y) {
             return false;
         }
         match g.direction {
@@ -140,15 +137,7 @@ impl Frame {
         ensures spots { Spots (corners_of self.now) r }
     {
         if r > self.corners.levels {
-            return Lattice {
-                left: 0,
-                top: 0,
-                columns: 0,
-                rows: 0,
-                first: 0,
-                across: 0,
-                down: 0,
-            };
+            return Lattice::default();
         }
         let n = self.apart(r);
         let ((left, right), (top, bottom)) = self.resolution(r);
@@ -157,26 +146,34 @@ impl Frame {
             top,
             columns: right - left,
             rows: bottom - top,
-            first: self.place_of(left * n, top * n),
+            first: self.place_of(Point {
+                x: left * n,
+                y: top * n,
+            }),
             across: n as usize,
             down: n as usize * (self.corners.x1 - self.corners.x0) as usize,
         }
     }
 
-    // The place of the finest point (x, y), which is one of the frame or at most 64 past it.
-    fn place_of(&self, x: u32, y: u32) -> usize
-        requires { ((corners_of self.now).x0 ≤ x) × (((corners_of self.now).y0 ≤ y) × ((x ≤ (corners_of self.now).x1 + 64) × (y ≤ (corners_of self.now).y1 + 64))) }
-        ensures { result ≡ the_place (corners_of self.now) (record { x = x; y = y }) }
+    // The place of a finest point that is one of the frame or at most 64 past it.
+    #[tactic(auto, unfolding(crate::specs::Places::place))]
+    fn place_of(&self, p: Point) -> usize
+        requires left { (corners_of self.now).x0 ≤ p.x }
+        requires top { (corners_of self.now).y0 ≤ p.y }
+        requires right { p.x ≤ (corners_of self.now).x1 + 64 }
+        requires bottom { p.y ≤ (corners_of self.now).y1 + 64 }
+        ensures { result ≡ the_place (corners_of self.now) p }
     {
         let c = self.corners;
-        (y - c.y0) as usize * (c.x1 - c.x0) as usize + (x - c.x0) as usize
+        (p.y - c.y0) as usize * (c.x1 - c.x0) as usize + (p.x - c.x0) as usize
     }
 }
 
-// a / n rounded up, where n is 2^d.
-fn ceil_of(a: u32, n: u32, d: u32) -> u32
-    requires { (n ≡ 2 ^ d) × ((0 < n) × ((n ≤ 64) × ((d ≤ 6) × (a ≤ 1073741824)))) }
-    ensures { result ≡ ceil a n }
+// a / 2^d rounded up.
+fn ceil_of(a: u32, d: u32) -> u32
+    requires few { d ≤ 6 }
+    requires near { a ≤ 1073741824 }
+    ensures { result ≡ ceil a (2 ^ d) }
 {
-    (a + (n - 1)) >> d
+    (a + ((1 << d) - 1)) >> d
 }

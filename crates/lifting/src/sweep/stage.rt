@@ -4,7 +4,8 @@ ghost use Rattle.geometry.specs.Frames.{corners_of};
 ghost use Rattle.geometry.specs.Refusals.{seen, accepted};
 ghost use Rattle.lifting.specs.Laws.{StageLaws};
 ghost use Rattle.lifting.specs.Meanings.{meant};
-ghost use Rattle.lifting.specs.Stages.{lines_by, stage_down, stage_up, stage_answer, after};
+ghost use Rattle.lifting.specs.Runs.{stage_by};
+ghost use Rattle.lifting.specs.Stages.{stage_down, stage_up, stage_answer, after};
 
 use super::lift_both;
 use breaks::source::BreakSource;
@@ -39,8 +40,8 @@ fn admitted<B: BreakSource>(
 pub fn all_known<K: Sample>(plane: &[K])
     ensures { (k : ℕ) → K.Sample.kind.held (slice_index_or plane.now k K.Sample.kind.nothing) ≡ true }
 {
-    for k in 0..plane.len() {
-        let _ = plane[k].known();
+    for x in plane {
+        let _ = x.known();
     }
 }
 
@@ -54,7 +55,7 @@ fn work<S: Step, B: BreakSource, const FIRST: bool, const SECOND: bool>(
     plane: &mut [S::Sample],
 ) -> Result<(), Refusal>
     ensures answer { seen (λ u. u) result ≡ stage_answer (corners_of frame.now) (B.BreakSource.framed source.now) stage (length plane.old) }
-    ensures plane { plane.new ≡ after (stage_answer (corners_of frame.now) (B.BreakSource.framed source.now) stage (length plane.old)) (lines_by (meant S.Sample.Sample.kind (S.Step.rule step.now)) (corners_of frame.now) (B.BreakSource.broken source.now) FIRST SECOND stage order.1 (lines_by (meant S.Sample.Sample.kind (S.Step.rule step.now)) (corners_of frame.now) (B.BreakSource.broken source.now) FIRST SECOND stage order.0 plane.old)) plane.old }
+    ensures plane { plane.new ≡ after (stage_answer (corners_of frame.now) (B.BreakSource.framed source.now) stage (length plane.old)) (stage_by (meant S.Sample.Sample.kind (S.Step.rule step.now)) (corners_of frame.now) (B.BreakSource.broken source.now) FIRST SECOND stage order plane.old) plane.old }
     ensures held { (k : ℕ) → S.Sample.Sample.kind.held (slice_index_or plane.old k S.Sample.Sample.kind.nothing) ≡ true }
 {
     all_known(plane);
@@ -65,8 +66,8 @@ fn work<S: Step, B: BreakSource, const FIRST: bool, const SECOND: bool>(
     Ok(())
 }
 
-// Stage `stage` down: each column, then each row, odd points before even ones. Or a refusal that changes nothing:
-// 4 a plane of the wrong length, 10 no such stage, 11 a source with another frame.
+// Stage `stage` down: each column, then each row, odd points before even ones. Or a refusal that changes nothing: `WrongLength`,
+// `WrongStage` where the frame has no such stage, or `OtherFrame` where the source has another frame.
 pub fn down<S: Step, B: BreakSource>(
     frame: &Frame,
     stage: u32,

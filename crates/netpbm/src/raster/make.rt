@@ -4,18 +4,13 @@ ghost use Rattle.netpbm.specs.Pictures.{within, raster_answer};
 ghost use Rattle.netpbm.specs.Rasters.{picture_of, seen_raster};
 
 use super::Raster;
-use crate::fault::Fault;
+use crate::fault::{Fault, check_len};
 
 // Whether each sample is at most the maxval.
 fn all_within(maxval: u16, samples: &[u16]) -> bool
     ensures { result ≡ within maxval samples.now }
 {
-    for s in samples {
-        if *s > maxval {
-            return false;
-        }
-    }
-    true
+    samples.iter().all(|s| *s <= maxval)
 }
 
 impl Raster {
@@ -28,15 +23,8 @@ impl Raster {
         if maxval == 0 {
             return Err(Fault::BadMaxval);
         }
-        let Some(count) = width.checked_mul(height) else {
-            return Err(Fault::CutShort);
-        };
-        if samples.len() < count {
-            return Err(Fault::CutShort);
-        }
-        if count < samples.len() {
-            return Err(Fault::LeftOver);
-        }
+        let count = width.checked_mul(height).ok_or(Fault::CutShort)?;
+        check_len(samples.len(), count)?;
         if !all_within(maxval, samples.as_slice()) {
             return Err(Fault::AboveMaxval);
         }

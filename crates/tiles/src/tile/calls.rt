@@ -1,11 +1,10 @@
 // The calls of a tile. A refused call changes no buffer, and the tile is as it was.
-ghost use Rattle.std.specs.Prelude.{◌≡◌, ◌+◌, ◌<◌, ◌≤◌, length, IfOk, ◌==◌};
+ghost use Rattle.std.specs.Prelude.{◌≡◌, ◌<◌, length, IfOk};
 ghost use Rattle.geometry.specs.Frames.{corners_of};
 ghost use Rattle.geometry.specs.Places.{place as the_place};
 ghost use Rattle.geometry.specs.Refusals.{seen, accepted};
 ghost use Rattle.lifting.specs.Meanings.{meant};
-ghost use Rattle.lifting.specs.Stages.{stage_down, stage_up};
-ghost use Rattle.tiles.specs.Tiles.{either, open_answer, length_answer, point_answer, sample_answer, move_answer, Puts, Reads, Begins, Descends, Ascends, Finishes};
+ghost use Rattle.tiles.specs.Tiles.{open_answer, length_answer, point_answer, sample_answer, Puts, Reads, Begins, Descends, Ascends, Finishes};
 ghost use Rattle.tiles.specs.Views.{picture_tile, bands_tile, with_plane, finish_answer, finish_tile};
 ghost use Rattle.tiles.specs.declared.state.State.TheVariants.{Picture as as_picture, Bands as as_bands};
 
@@ -29,19 +28,12 @@ fn admit(frame: &Frame, length: usize) -> Result<(), Refusal>
 }
 
 // Where the sample of a finest point is kept in a plane of this length: 4 for the wrong length, 9 outside the frame.
-fn place_in(frame: &Frame, length: usize, p: Point) -> Result<usize, Refusal>
-    ensures { seen (λ k. k) result ≡ point_answer (corners_of frame.now) length p (the_place (corners_of frame.now) p) }
-{
-    admit(frame, length)?;
-    frame.place(p)
-}
-
-// The same, as an index into that plane.
 fn index_in(frame: &Frame, length: usize, p: Point) -> Result<usize, Refusal>
     ensures answer { seen (λ k. k) result ≡ point_answer (corners_of frame.now) length p (the_place (corners_of frame.now) p) }
     ensures within { IfOk result (λ k. k < length) }
 {
-    place_in(frame, length, p)
+    admit(frame, length)?;
+    frame.place(p)
 }
 
 // The sample of a finest point in a plane, with the same refusals.
@@ -52,36 +44,7 @@ fn sample_at<K: Sample>(frame: &Frame, plane: &[K], p: Point) -> Result<K, Refus
     Ok(plane[k])
 }
 
-// Stage `stage` of a frame down, with the refusals of a tile at that stage.
-fn lower<S: Step, B: BreakSource>(
-    frame: &Frame,
-    stage: u32,
-    plane: &mut [S::Sample],
-    step: &S,
-    source: &B,
-) -> Result<(), Refusal>
-    requires { stage ≤ (corners_of frame.now).levels }
-    ensures answer { seen (λ u. u) result ≡ move_answer (corners_of frame.now) (B.BreakSource.framed source.now) (length plane.old) (stage == 0) }
-    ensures plane { plane.new ≡ either (seen (λ u. u) result) (stage_down (meant S.Sample.Sample.kind (S.Step.rule step.now)) (corners_of frame.now) (B.BreakSource.broken source.now) stage plane.old) plane.old }
-{
-    lifting::down(frame, stage, step, source, plane)
-}
-
-// The stage above `stage` up, with the refusals of a tile at stage `stage`.
-fn raise<S: Step, B: BreakSource>(
-    frame: &Frame,
-    stage: u32,
-    plane: &mut [S::Sample],
-    step: &S,
-    source: &B,
-) -> Result<(), Refusal>
-    requires { stage ≤ (corners_of frame.now).levels }
-    ensures answer { seen (λ u. u) result ≡ move_answer (corners_of frame.now) (B.BreakSource.framed source.now) (length plane.old) (stage == (corners_of frame.now).levels) }
-    ensures plane { plane.new ≡ either (seen (λ u. u) result) (stage_up (meant S.Sample.Sample.kind (S.Step.rule step.now)) (corners_of frame.now) (B.BreakSource.broken source.now) (stage + 1) plane.old) plane.old }
-{
-    lifting::up(frame, stage + 1, step, source, plane)
-}
-
+// A picture and bands are two types, so `open`, `stage` and `read` stand at both; what they share is `admit` and `sample_at`.
 impl Picture {
     // Opens a tile as a picture over a plane, which holds its samples. 4 for a plane of the wrong length.
     pub fn open<K: Sample>(frame: Frame, plane: &[K]) -> Result<Picture, Refusal>
@@ -95,7 +58,7 @@ impl Picture {
     pub fn stage(&self) -> u32
         ensures { result ≡ (picture_tile self.now).stage }
     {
-        self.frame.corners().levels
+        self.frame.levels()
     }
 
     // Sets the sample of a finest point. 4 for a plane of the wrong length, 9 outside the frame.
@@ -118,10 +81,9 @@ impl Picture {
     pub fn begin(self) -> Bands
         ensures { Begins (picture_tile self) (accepted tt) (bands_tile result) }
     {
-        let stage = self.stage();
         Bands {
             frame: self.frame,
-            stage,
+            stage: self.stage(),
         }
     }
 }
@@ -139,8 +101,7 @@ impl Bands {
     pub fn stage(&self) -> u32
         ensures { result ≡ (bands_tile self.now).stage }
     {
-        let stage = self.stage;
-        stage
+        self.stage
     }
 
     // The sample that the plane has for a finest point. 4 for a plane of the wrong length, 9 outside the frame.
@@ -159,7 +120,7 @@ impl Bands {
     ) -> Result<(), Refusal>
         ensures { Descends (meant S.Sample.Sample.kind (S.Step.rule step.now)) (B.BreakSource.framed source.now) (B.BreakSource.broken source.now) (with_plane (bands_tile self.old) plane.old) (seen (λ u. u) result) (with_plane (bands_tile self.new) plane.new) }
     {
-        lower(&self.frame, self.stage, plane, step, source)?;
+        lifting::down(&self.frame, self.stage, step, source, plane)?;
         self.stage -= 1;
         Ok(())
     }
@@ -173,7 +134,7 @@ impl Bands {
     ) -> Result<(), Refusal>
         ensures { Ascends (meant S.Sample.Sample.kind (S.Step.rule step.now)) (B.BreakSource.framed source.now) (B.BreakSource.broken source.now) (with_plane (bands_tile self.old) plane.old) (seen (λ u. u) result) (with_plane (bands_tile self.new) plane.new) }
     {
-        raise(&self.frame, self.stage, plane, step, source)?;
+        lifting::up(&self.frame, self.stage + 1, step, source, plane)?;
         self.stage += 1;
         Ok(())
     }

@@ -1,12 +1,11 @@
-use Rattle.std.proofs.Common.{ℕ, ◌≤◌, List, ◌++◌, length, vec_items, ap, ◌∙◌, arith, ltb-false}
-use Rattle.netpbm.specs.Parses.{pairs}
-use Rattle.netpbm.proofs.Turns.{rest_of}
-use Rattle.netpbm.proofs.Samples.{pairs_more}
+use Rattle.std.proofs.Common.{◌≡◌, ℕ, ◌/◌, List, length, map, vec_items, subst, arith, rules, IfOk}
+use Rattle.std.specs.Simd.{first_chunks}
+use Rattle.std.proofs.iter.runs.Made.{chains}
+use Rattle.netpbm.proofs.Samples.{pair_value, pairs_chunks}
 use Rattle.netpbm.proofs.reader.wide_samples.Goals as goal
 
-pub loop-rest-preserved : goal.loop-rest-preserved
-loop-rest-preserved c =
-    let bs = c.loop-rest.rest.now in
-    let long : 2 ≤ length bs = omega (arith, ltb-false) in
-    ap (λ (q : List ℕ). q ++ pairs (rest_of 2 bs)) c.in_ok-push.ensures.items
-    ∙ pairs_more (vec_items c.loop-rest.out) bs c.from_be_bytes.result long c.from_be_bytes.ensures ∙ c.loop-rest.invariant
+pub returns : goal.returns
+returns c =
+    let bs = c.args.bytes.now in
+    let made : IfOk c.collect.result (λ v. vec_items v ≡ map pair_value (first_chunks 2 (length bs / 2) bs)) = search (rules, chains) in
+    subst (λ (q : List ℕ). IfOk c.collect.result (λ v. vec_items v ≡ q)) (pairs_chunks (length bs / 2) bs (omega arith) (omega arith)) made

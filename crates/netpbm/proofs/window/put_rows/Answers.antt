@@ -1,35 +1,8 @@
-use Rattle.std.proofs.Common.{◌≡◌, ℕ, ◌+◌, ◌-◌, ◌*◌, length, take, drop, ap, ◌∙◌, subst, arith}
+use Rattle.std.proofs.Common.{◌≡◌, ℕ, ◌+◌, ◌-◌, ◌*◌, take, drop, ap, ◌∙◌, subst, arith}
 use borrow.Rule.Slice.PartMut.{put_mid}
 use Rattle.netpbm.specs.Windows.{RowsPut}
-use Rattle.netpbm.proofs.Cuts.{row_room, part_room, put_more, own_more}
+use Rattle.netpbm.proofs.Cuts.{put_more, own_more}
 use Rattle.netpbm.proofs.window.put_rows.Goals as goal
-
-pub overflow_mul-start : goal.overflow_mul-start
-overflow_mul-start c = omega (arith, row_room c.args.w c.args.stride (length c.args.samples.now) c.loop-row.row c.loop-row-test.true c.requires.across c.requires.down)
-
-pub overflow_add-start-in-loop-row : goal.overflow_add-start-in-loop-row
-overflow_add-start-in-loop-row c = omega (arith, row_room c.args.w c.args.stride (length c.args.samples.now) c.loop-row.row c.loop-row-test.true c.requires.across c.requires.down)
-
-pub overflow_add-start-in-loop-row-2 : goal.overflow_add-start-in-loop-row-2
-overflow_add-start-in-loop-row-2 c = omega (arith, row_room c.args.w c.args.stride (length c.args.samples.now) c.loop-row.row c.loop-row-test.true c.requires.across c.requires.down)
-
-pub offset_bounds-samples-start : goal.offset_bounds-samples-start
-offset_bounds-samples-start c = omega (arith, row_room c.args.w c.args.stride (length c.args.samples.now) c.loop-row.row c.loop-row-test.true c.requires.across c.requires.down)
-
-pub slice_bounds-copy_from_slice-end : goal.slice_bounds-copy_from_slice-end
-slice_bounds-copy_from_slice-end c = omega (arith, row_room c.args.w c.args.stride (length c.args.samples.now) c.loop-row.row c.loop-row-test.true c.requires.across c.requires.down)
-
-pub overflow_mul-from : goal.overflow_mul-from
-overflow_mul-from c = omega (arith, part_room c.args.w (length c.args.part.now) c.loop-row.row c.loop-row-test.true c.requires.whole)
-
-pub overflow_add-from : goal.overflow_add-from
-overflow_add-from c = omega (arith, part_room c.args.w (length c.args.part.now) c.loop-row.row c.loop-row-test.true c.requires.whole)
-
-pub offset_bounds-part-from : goal.offset_bounds-part-from
-offset_bounds-part-from c = omega (arith, part_room c.args.w (length c.args.part.now) c.loop-row.row c.loop-row-test.true c.requires.whole)
-
-pub slice_bounds-copy_from_slice-end-in-loop-row : goal.slice_bounds-copy_from_slice-end-in-loop-row
-slice_bounds-copy_from_slice-end-in-loop-row c = omega (arith, part_room c.args.w (length c.args.part.now) c.loop-row.row c.loop-row-test.true c.requires.whole)
 
 pub loop-row-preserved : goal.loop-row-preserved
 loop-row-preserved c =
@@ -42,8 +15,8 @@ loop-row-preserved c =
     let long : from + t.width - from ≡ t.width = omega arith in
     let is = c.copy_from_slice.ensures.after ∙ ap (λ (q : ℕ). take q (drop from part)) long in
     let after = ap (λ (q : ℕ). put_mid start q c.loop-row.samples c.copy_from_slice.new.self) wide in (
-      put_more c.args.stride c.args.samples.now t n part c.loop-row.samples c.copy_from_slice.new.self _ c.loop-row-test.true c.requires.across c.requires.down c.requires.whole is after c.loop-row.invariant.0,
-      λ p. own_more c.args.stride c.args.samples.now t n part c.loop-row.samples c.copy_from_slice.new.self _ c.loop-row-test.true c.requires.across c.requires.down c.requires.whole is after p (c.loop-row.invariant.1 p),
+      put_more c.args.stride c.args.samples.now t n part c.loop-row.samples c.copy_from_slice.new.self _ c.loop-row-test.true c.requires.lies c.requires.whole is after c.loop-row.invariant.0,
+      λ p. own_more c.args.stride c.args.samples.now t n part c.loop-row.samples c.copy_from_slice.new.self _ c.loop-row-test.true c.requires.lies c.requires.whole is after p (c.loop-row.invariant.1 p),
     )
 
 pub returns : goal.returns

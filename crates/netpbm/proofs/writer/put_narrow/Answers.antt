@@ -1,17 +1,12 @@
-use Rattle.std.proofs.Common.{ℕ, List, [], ◌∷◌, ◌++◌, get_or, vec_items, sym, ap, ◌∙◌, append_assoc, arith, rules}
-use Rattle.std.proofs.lemmas.List.{take_more, take_all}
-use Rattle.netpbm.proofs.Samples.{within_at}
+use Rattle.std.proofs.Common.{rules, tests}
+use Rattle.std.proofs.lemmas.Iterator.{YieldsList-from_map, YieldsList-from_slice}
+use Rattle.std.proofs.lemmas.Iterator.Consumers.{YieldsList-at}
+use Rattle.std.proofs.lemmas.List.{map-id}
+use Rattle.std.proofs.lemmas.Iterator.Adapters.{items_from_extend}
 use Rattle.netpbm.proofs.writer.put_narrow.Goals as goal
 
-pub overflow_cast-s : goal.overflow_cast-s
-overflow_cast-s c = omega (arith, within_at 255 c.args.samples.now c.loop-s.s-index c.requires c.loop-s-test.true)
-
-pub loop-s-preserved : goal.loop-s-preserved
-loop-s-preserved c =
-    let x = get_or c.args.samples.now c.loop-s.s-index 0 in
-    c.in_ok-push.ensures.items ∙ ap (λ (q : List ℕ). q ++ (x ∷ [])) c.loop-s.invariant
-    ∙ append_assoc (vec_items c.args.out.now) _ _
-    ∙ ap (λ (q : List ℕ). vec_items c.args.out.now ++ q) (sym (take_more c.args.samples.now c.loop-s.s-index 0 c.loop-s-test.true))
-
 pub returns : goal.returns
-returns c = search (rules, take_all)
+returns c =
+    let h = items_from_extend c.extend.result c.extend.ensures.ran (YieldsList-from_map _ (λ s. s) (YieldsList-at c.map.ensures.source (YieldsList-from_slice c.args.samples.now cc)) c.map.ensures.closure (λ x r q k. search (rules, tests))) in
+    let same = map-id c.args.samples.now in
+    search rules

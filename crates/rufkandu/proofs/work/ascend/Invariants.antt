@@ -1,11 +1,12 @@
-use Rattle.std.proofs.Common.{◌≡◌, List, ℤ}
+use Rattle.std.proofs.Common.{◌≡◌, ◌+◌, ◌-◌, ◌≤◌, List, ℤ}
 use Rattle.geometry.specs.Frames.{corners_of}
 use Rattle.lifting.specs.Stages.{transform, Plane}
-use Rattle.rufkandu.specs.Bands.{by_mean}
+use Rattle.plates.specs.Bands.{by_mean}
 use Rattle.rufkandu.proofs.work.ascend.Given as goal
 
-abbrev pub invariant-loop-n : goal.invariant-loop-n
-invariant-loop-n g l =
-    (xs : List ℤ) → Plane by_mean (corners_of l.frame) xs →
+abbrev pub invariant-loop-stage : goal.invariant-loop-stage
+invariant-loop-stage g l =
+    (l.stage ≤ l.stage-end + 1)
+    × ((xs : List ℤ) → Plane by_mean (corners_of l.frame) xs →
     l.initial.plane ≡ transform by_mean (corners_of l.frame) (g.B.BreakSource.broken l.source) 0 xs →
-    l.plane ≡ transform by_mean (corners_of l.frame) (g.B.BreakSource.broken l.source) l.n xs
+    l.plane ≡ transform by_mean (corners_of l.frame) (g.B.BreakSource.broken l.source) (l.stage - 1) xs)

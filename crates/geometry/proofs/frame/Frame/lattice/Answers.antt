@@ -1,10 +1,9 @@
-use Rattle.std.proofs.Common.{◌≡◌, ℕ, ◌+◌, ◌-◌, ◌*◌, ◌<◌, ◌≤◌, leb, sym, ◌∙◌, subst, ap₂, arith}
-use Rattle.std.proofs.lemmas.Bool.{cond-false, lt-leb}
+use Rattle.std.proofs.Common.{◌≡◌, ℕ, ◌+◌, ◌-◌, ◌*◌, ◌<◌, ◌≤◌, sym, ◌∙◌, subst, ap₂, arith}
 use Rattle.geometry.specs.declared.direction.Direction.TheVariants.{Row, Column}
 use Rattle.geometry.specs.declared.frame.Frame.{Frame}
 use Rattle.geometry.specs.declared.lattice.Lattice.{Lattice}
 use Rattle.geometry.specs.Frames.{width, low, corners_of}
-use Rattle.geometry.specs.Places.{place, lattice_at, no_lattice, lattice_of, Steps}
+use Rattle.geometry.specs.Places.{place, lattice_at, lattice_of, Steps}
 use Rattle.geometry.proofs.Bounds.{extent, answered}
 use Rattle.geometry.proofs.Lattices.{lattice_is, steps_of}
 use Rattle.geometry.proofs.Points.{spots}
@@ -14,11 +13,8 @@ use Rattle.geometry.proofs.frame.Frame.lattice.Goals as goal
 lawful : (f : Frame) (r : ℕ) (l : Lattice) → l ≡ lattice_of (corners_of f) r → Steps (corners_of f) r l
 lawful f r l e = subst (Steps (corners_of f) r) (sym e) (steps_of (corners_of f) r)
 
-pub returns-then-r-self : goal.returns-then-r-self
-returns-then-r-self c =
-    let f = c.args.self.now in
-    let e = sym (cond-false (leb c.args.r f.corners.levels) (lattice_at (corners_of f) c.args.r) no_lattice (lt-leb c.args.r f.corners.levels c.if-r-self.true)) in
-    record { is = e; steps = lawful f c.args.r _ e; spots = spots (corners_of f) c.args.r }
+pub returns-then-r-self-clause-spots : goal.returns-then-r-self-clause-spots
+returns-then-r-self-clause-spots c = spots (corners_of c.args.self.now) c.args.r
 
 pub overflow_sub-result : goal.overflow_sub-result
 overflow_sub-result c =
@@ -54,7 +50,7 @@ pub overflow_mul-top : goal.overflow_mul-top
 overflow_mul-top c = omega (arith, down c, c.args.self.now.bottom)
 
 pub place_of-requires : goal.place_of-requires
-place_of-requires c = ((across c).0, ((down c).0, ((across c).1, (down c).1)))
+place_of-requires c = record { left = (across c).0; top = (down c).0; right = (across c).1; bottom = (down c).1 }
 
 pub returns : goal.returns
 returns c =

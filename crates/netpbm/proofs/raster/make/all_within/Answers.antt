@@ -1,14 +1,11 @@
-use Rattle.std.proofs.Common.{sym, ◌∙◌, arith}
-use Rattle.std.proofs.lemmas.List.{at_drop_all}
-use Rattle.netpbm.specs.Pictures.{within}
-use Rattle.netpbm.proofs.Samples.{within_stop, within_more}
+use Rattle.std.proofs.Common.{leb, ◌∙◌, rules, tests}
+use Rattle.std.proofs.lemmas.Iterator.{YieldsList-from_slice}
+use Rattle.std.proofs.lemmas.Iterator.Search.{all_from_yields_List}
+use Rattle.netpbm.proofs.Samples.{within_all}
 use Rattle.netpbm.proofs.raster.make.all_within.Goals as goal
 
-pub returns-then-s-maxval : goal.returns-then-s-maxval
-returns-then-s-maxval c = sym (within_stop _ _ _ c.loop-s-test.true c.if-s-maxval.true) ∙ c.loop-s.invariant
-
-pub loop-s-preserved : goal.loop-s-preserved
-loop-s-preserved c = within_more _ _ _ c.loop-s-test.true c.if-s-maxval.false ∙ c.loop-s.invariant
-
 pub returns : goal.returns
-returns c = sym (at_drop_all (within c.args.maxval) c.args.samples.now c.loop-s.s-index (omega arith)) ∙ c.loop-s.invariant
+returns c =
+    let m = c.args.maxval in
+    let xs = c.args.samples.now in
+    all_from_yields_List (λ x. leb x m) _ _ c.all.result c.all.ensures.ran (YieldsList-from_slice xs cc) (λ x b q k. search (rules, tests)) ∙ within_all m xs
