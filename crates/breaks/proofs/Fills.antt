@@ -13,6 +13,7 @@ use Rattle.geometry.proofs.Points.{apart_pos}
 use Rattle.breaks.specs.declared.flags.Flags.{Flags}
 use Rattle.breaks.specs.declared.run.Run.{Run}
 use Rattle.breaks.specs.declared.wholeness.Wholeness.{Wholeness}
+use Rattle.breaks.specs.declared.wholeness.Wholeness.TheVariants.{Broken}
 use Rattle.breaks.specs.Sources.{is_broken, FlagsOf, gap_from, gap_before, point_in, before_broken, after_broken}
 
 -- the flags below index i are filled
@@ -70,3 +71,11 @@ flags_of broken run k f b a p e q hb ha = (
   ap (λ (x : Flags). is_broken x.before) e ∙ hb ∙ ap (before_broken broken run.resolution run.direction) q,
   ap (λ (x : Flags). is_broken x.after) e ∙ ha ∙ ap (after_broken broken run.resolution run.direction) q,
 )
+
+-- where everything is broken, so are the two gaps of each point
+pub unframed_broken : (broken : Gap → Bool) → ((g : Gap) → broken g ≡ true) → (run : Run) (k : ℕ) → FlagsOf broken run k (record { before = Broken; after = Broken })
+unframed_broken broken all run k = (sym (first (eqb (along run.direction (point_in run k)) 0)), sym (all _))
+  where
+    first : (b : Bool) → cond b true (broken (gap_from run.resolution run.direction (previous run.direction (point_in run k)))) ≡ true
+    first true = refl
+    first false = all _

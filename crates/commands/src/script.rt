@@ -4,7 +4,7 @@ ghost use Rattle.geometry.specs.declared.point.Point.{Point as point};
 ghost use Rattle.commands.specs.Scripts.{WritesPoint, Said, SaidAfter};
 
 use geometry::point::Point;
-use std::alloc::{AllocError, Global};
+use std::alloc::{AllocError, AllocFailed, Global};
 use tiles::Call;
 
 // Why a script cannot be read.
@@ -17,6 +17,12 @@ pub enum Unread {
 
 impl From<AllocError> for Unread {
     fn from(_e: AllocError) -> Unread {
+        Unread::NoMemory
+    }
+}
+
+impl<T: Drop> From<AllocFailed<T>> for Unread {
+    fn from(_e: AllocFailed<T>) -> Unread {
         Unread::NoMemory
     }
 }

@@ -89,9 +89,10 @@ impl Reference {
         !(x0..x1).contains(&p.x) || !(y0..y1).contains(&p.y)
     }
 
-    // Whether the source has another frame.
+    // Whether the source has another frame. By the numbers, and not by the equality of corners, which the crates use.
     fn is_elsewhere(&self) -> bool {
-        self.frame != self.home
+        let (a, b) = (self.frame, self.home);
+        (a.x0, a.y0, a.x1, a.y1, a.levels) != (b.x0, b.y0, b.x1, b.y1, b.levels)
     }
 
     // The number of a call's refusal, if it has one: the first of 9, 10 and 11 that applies. They are the rules' own numbers, and not

@@ -18,13 +18,13 @@ fn on_picture(
     plane: &mut [i32],
     call: Call<i32>,
 ) -> Result<(Tile, Answer), Fault> {
-    let reply: Reply<i32> = match call {
+    let answer: Result<Option<i32>, Refusal> = match call {
         Call::Put(at, v) => picture.put(plane, at, v).map(|()| None),
         Call::Read(at) => picture.read(plane, at).map(Some),
         Call::Begin => return Ok((Tile::Bands(picture.begin()), Answer::Accepted)),
         _ => return Err(Fault::NotAllowed),
     };
-    Ok((Tile::Picture(picture), Answer::from(reply)))
+    Ok((Tile::Picture(picture), Answer::from(Reply::from(answer))))
 }
 
 fn finished(bands: Bands) -> (Tile, Answer) {
@@ -40,14 +40,14 @@ fn on_bands(
     source: &LabelMap<'_>,
     call: Call<i32>,
 ) -> Result<(Tile, Answer), Fault> {
-    let reply: Reply<i32> = match call {
+    let answer: Result<Option<i32>, Refusal> = match call {
         Call::Read(at) => bands.read(plane, at).map(Some),
         Call::Down => bands.down(plane, &MeanStep, source).map(|()| None),
         Call::Up => bands.up(plane, &MeanStep, source).map(|()| None),
         Call::Finish => return Ok(finished(bands)),
         _ => return Err(Fault::NotAllowed),
     };
-    Ok((Tile::Bands(bands), Answer::from(reply)))
+    Ok((Tile::Bands(bands), Answer::from(Reply::from(answer))))
 }
 
 impl Tile {

@@ -21,9 +21,9 @@ pub struct Told {
 impl From<Reply<i32>> for Answer {
     fn from(reply: Reply<i32>) -> Answer {
         match reply {
-            Ok(None) => Answer::Accepted,
-            Ok(Some(sample)) => Answer::Sample(sample),
-            Err(why) => Answer::Refused(why.number()),
+            Reply::Accepted => Answer::Accepted,
+            Reply::Sample(sample) => Answer::Sample(sample),
+            Reply::Refused(why) => Answer::Refused(why.number()),
         }
     }
 }

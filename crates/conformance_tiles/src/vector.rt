@@ -16,19 +16,26 @@ struct Vector {
     bands: Vec<i32>,
 }
 
-// The numbers of a text, apart by spaces.
-fn numbers<T: FromStr<Err = ParseIntError> + Drop>(
-    heap: Global,
-    text: &str,
-) -> Result<Vec<T>, Fault> {
-    text.split_whitespace()
-        .map(|word| word.parse::<T>().map_err(|_| Fault::Unreadable))
-        .try_collect(heap)
+fn number<T: FromStr<Err = ParseIntError>>(word: &str) -> Result<T, Fault> {
+    word.parse::<T>().map_err(|_| Fault::Unreadable)
 }
 
-// The frame `x0 y0 x1 y1 levels`.
+// The numbers of a text, apart by spaces. (A loop: a chain that collects takes longer for each of them.)
+fn numbers(heap: Global, text: &str) -> Result<Vec<i32>, Fault> {
+    let mut all = Vec::new(heap);
+    for word in text.split_whitespace() {
+        all.push(number::<i32>(word)?)?;
+    }
+    Ok(all)
+}
+
+// The frame `x0 y0 x1 y1 levels`. A sixth word is one too many, and no more are read.
 fn frame_of(heap: Global, text: &str) -> Result<Frame, Fault> {
-    let sides = numbers::<u32>(heap, text)?;
+    let sides: Vec<u32> = text
+        .split_whitespace()
+        .take(6)
+        .map(|word| number::<u32>(word))
+        .try_collect(heap)?;
     let [x0, y0, x1, y1, levels] = sides.as_slice() else {
         return Err(Fault::Unreadable);
     };

@@ -1,13 +1,14 @@
 -- What a frame's bounds say of its numbers and of its resolutions. Assumes nothing.
-use Rattle.std.proofs.Common.{◌≡◌, ℕ, ◌+◌, ◌*◌, ◌<◌, ◌≤◌, true, leb, ap, ◌∙◌, arith}
+use Rattle.std.proofs.Common.{◌≡◌, ℕ, ◌+◌, ◌*◌, ◌<◌, ◌≤◌, Bool, true, false, cond, not, ◌&&◌, leb, refl, ap, ◌∙◌, arith}
 use Rattle.std.proofs.lemmas.Bool.Decides.{nat_tests}
 use Rattle.geometry.specs.declared.corners.Corners.{Corners}
 use Rattle.geometry.specs.declared.direction.Direction.{Direction}
 use Rattle.geometry.specs.declared.direction.Direction.TheVariants.{Row, Column}
 use Rattle.geometry.specs.declared.frame.Frame.{Frame}
-use Rattle.std.proofs.lemmas.Bool.{cond-true, le-leb}
+use Rattle.std.proofs.lemmas.Bool.{cond-true, le-leb, and_left}
 use Rattle.geometry.specs.declared.gap.Gap.{Gap}
-use Rattle.geometry.specs.Frames.{apart, start, stop, low, high, next, is_frame, is_gap, corners_of, resolution_of}
+use Rattle.geometry.specs.Frames.{apart, start, stop, low, high, next, is_frame, is_gap, corners_of, resolution_of, frame_answer, empty_side, too_large, too_many_levels}
+use Rattle.geometry.specs.Refusals.{Answer, accepted, refused}
 use Rattle.geometry.proofs.Ceilings.{ceil_mono, ceil_near, ceil_small, ceil_over}
 use Rattle.geometry.proofs.Points.{apart_pos, IsPoint, point_parts}
 
@@ -97,3 +98,16 @@ gap_parts c g e =
       from = point_parts c g.resolution g.from (grind (arith, nat_tests));
       to = point_parts c g.resolution (next g.direction g.from) (grind (arith, nat_tests));
     }
+
+-- numbers that are refused are no frame's, and have no gaps
+pub refused_frame : (c : Corners) (n : ℕ) → refused n ≡ frame_answer c → is_frame c ≡ false
+refused_frame c n e = go (empty_side c) (too_large c) (too_many_levels c) e
+  where
+    go : (a b d : Bool) → ◌≡◌ {A = Answer Corners} (refused n) (cond a (refused 1) (cond b (refused 2) (cond d (refused 3) (accepted c)))) → (not a && (not b && not d)) ≡ false
+    go true b d h = refl
+    go false true d h = refl
+    go false false true h = refl
+    go false false false h = absurd (let z : ◌≡◌ {A = ℕ} 0 1 = cc in omega arith)
+
+pub unframed : (c : Corners) (g : Gap) → is_frame c ≡ false → is_gap c g ≡ false
+unframed c g e = and_left (is_frame c) _ e

@@ -92,10 +92,10 @@ module _ (row : LatticeRow) where
 
   module _ {K : Type 0} {s : Sweep K} {now : List K} where
     -- moving on past columns without points of the parity, and to the next row
-    row_skips : (i k : ℕ) → ((q : Point) → l.left ≤ q.x → q.x < l.left + l.columns → has_parity s.odd q.x ≡ true → ltb q.x (l.left + k) ≡ ltb q.x (l.left + i)) → InRow s row i k now now
+    pub row_skips : (i k : ℕ) → ((q : Point) → l.left ≤ q.x → q.x < l.left + l.columns → has_parity s.odd q.x ≡ true → ltb q.x (l.left + k) ≡ ltb q.x (l.left + i)) → InRow s row i k now now
     row_skips i k same = record { come = λ c xs suits come. come_jump s l c xs suits Row now (l.left + i) y (l.left + k) y (λ q w t. earlier_apart (l.left + i) (l.left + k) y q (λ h. same q w.left w.right t)) come }
 
-    row_ends : (i : ℕ) → ((q : Point) → q.x < l.left + l.columns → has_parity s.odd q.x ≡ true → q.x < l.left + i) → PastRow s row Row i now now
+    pub row_ends : (i : ℕ) → ((q : Point) → q.x < l.left + l.columns → has_parity s.odd q.x ≡ true → q.x < l.left + i) → PastRow s row Row i now now
     row_ends i all = record {
       come = λ c xs suits come. come_jump s l c xs suits Row now (l.left + i) y (l.left + 0) (l.top + (j + 1)) (λ q w t. earlier_next (l.left + i) (l.left + 0) y (l.top + (j + 1)) q (omega arith) (omega arith) (λ h. all q w.right t)) come;
     }

@@ -98,7 +98,7 @@ module _ {K : Type 0} (s : Sweep K) (c : Corners) (outside : Outside c s.broken)
       subst (λ (i : ℕ). Comes (point_in run i).x (run_of s flags t (suc k) ys)) (add-one k)
       (run_one flags k _ h (told k h) (run_some flags k ys (omega arith) told come))
 
-  run_comes : (flags : List Flags) (ys : List K) → length flags ≡ n → Flagged s.broken flags run → Comes run.first.x ys → Comes (point_in run n).x (run_of s flags t (length flags) ys)
+  pub run_comes : (flags : List Flags) (ys : List K) → length flags ≡ n → Flagged s.broken flags run → Comes run.first.x ys → Comes (point_in run n).x (run_of s flags t (length flags) ys)
   run_comes flags ys size told come =
       subst (λ (i : ℕ). Comes (point_in run n).x (run_of s flags t i ys)) (sym size)
       (run_some flags n ys (omega arith) (λ i h. told i no_flags (let l : i < length flags = omega arith in l)) come)

@@ -94,7 +94,7 @@ module _ {K : Type 0} (m : Meaning K) (c : Corners) (broken : Breaks) (r : ℕ) 
       length_lifted m.kind.nothing (op m true) (amount m second) (pass c broken r d second) (sub_pass m c broken r d first false xs)
       ∙ length_lifted m.kind.nothing (op m false) (amount m first) (pass c broken r d first) xs
 
-  two_of : (order : Direction × Direction) {l : Lattice} {xs a b : List K} → Suits broken r l c xs → PassesBoth m broken r order.0 first second l xs a → PassesBoth m broken r order.1 first second l a b →
+  pub two_of : (order : Direction × Direction) {l : Lattice} {xs a b : List K} → Suits broken r l c xs → PassesBoth m broken r order.0 first second l xs a → PassesBoth m broken r order.1 first second l a b →
       b ≡ stage_by m c broken first second r order xs
   two_of order {xs = xs} suits f g =
       let ea = f.is c suits in

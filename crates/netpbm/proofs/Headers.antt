@@ -10,17 +10,17 @@ use Rattle.netpbm.specs.declared.header.Header.{Header}
 use Rattle.netpbm.proofs.Turns.{first_by, first_le, byte_first, one_first, gap_first, digits_first}
 
 -- what a bind that got something had before
-record Step {X Y : Type 0} (r : Read X) (f : X → List ℕ → Read Y) (y : Y) (zs : List ℕ) : Type 0 where
-  value : X
-  rest : List ℕ
-  is : r ≡ got value rest
-  next : f value rest ≡ got y zs
+pub record Step {X Y : Type 0} (r : Read X) (f : X → List ℕ → Read Y) (y : Y) (zs : List ℕ) : Type 0 where
+  pub value : X
+  pub rest : List ℕ
+  pub is : r ≡ got value rest
+  pub next : f value rest ≡ got y zs
 
-then_got : {X Y : Type 0} (r : Read X) (f : X → List ℕ → Read Y) (y : Y) (zs : List ℕ) → and_then r f ≡ got y zs → Step r f y zs
+pub then_got : {X Y : Type 0} (r : Read X) (f : X → List ℕ → Read Y) (y : Y) (zs : List ℕ) → and_then r f ≡ got y zs → Step r f y zs
 then_got (got x bs) f y zs e = record { value = x; rest = bs; is = refl; next = e }
 then_got (fault w) f y zs e = cc
 
-stop_got : {X : Type 0} (b : Bool) (w : ℕ) (r : Read X) (y : X) (zs : List ℕ) → stop_if b w r ≡ got y zs → (b ≡ false) × (r ≡ got y zs)
+pub stop_got : {X : Type 0} (b : Bool) (w : ℕ) (r : Read X) (y : X) (zs : List ℕ) → stop_if b w r ≡ got y zs → (b ≡ false) × (r ≡ got y zs)
 stop_got true w r y zs e = cc
 stop_got false w r y zs e = (refl, e)
 

@@ -34,7 +34,7 @@ pairs_length (a ∷ b ∷ bs) n h =
     let l = pairs_length bs (n - 1) (omega arith) in
     omega arith
 
-values_length : (m n : ℕ) (bs : List ℕ) → length bs ≡ n * sample_size m → length (values m bs) ≡ n
+pub values_length : (m n : ℕ) (bs : List ℕ) → length bs ≡ n * sample_size m → length (values m bs) ≡ n
 values_length m n bs h =
     ⊎_elim
     (λ (t : ltb m 256 ≡ true).

@@ -7,7 +7,7 @@ use Rattle.std.proofs.lemmas.Bool.{leb-true, and_parts}
 use Rattle.netpbm.specs.Pictures.{within}
 use Rattle.netpbm.specs.Parses.{pairs}
 
-within_at : (m : ℕ) (xs : List ℕ) (i : ℕ) → within m xs ≡ true → i < length xs → get_or xs i 0 ≤ m
+pub within_at : (m : ℕ) (xs : List ℕ) (i : ℕ) → within m xs ≡ true → i < length xs → get_or xs i 0 ≤ m
 within_at m [] i h l = absurd (omega arith)
 within_at m (x ∷ xs) zero h l = leb-true x m (and_parts (leb x m) (within m xs) h).0
 within_at m (x ∷ xs) (suc i) h l = within_at m xs i (and_parts (leb x m) (within m xs) h).1 (omega arith)
@@ -19,7 +19,7 @@ pub within_all : (m : ℕ) (xs : List ℕ) → list_all (λ x. leb x m) xs ≡ w
 within_all m [] = refl
 within_all m (x ∷ xs) = ap (λ t. leb x m && t) (within_all m xs)
 
-pairs_short : (bs : List ℕ) → length bs < 2 → pairs bs ≡ []
+pub pairs_short : (bs : List ℕ) → length bs < 2 → pairs bs ≡ []
 pairs_short [] h = refl
 pairs_short (a ∷ []) h = refl
 pairs_short (a ∷ b ∷ bs) h = absurd (omega arith)

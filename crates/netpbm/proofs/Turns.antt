@@ -73,7 +73,7 @@ skip_hash [] h e = absurd (omega arith)
 skip_hash (b ∷ bs) h e = ap (λ q. skipped false (drop (position_or_len line_end q) q)) (take_rest (b ∷ bs) 1) ∙ line_skipped bs ∙ ap (λ n. skipped false (n ∷ bs)) (sym e)
 
 -- digits: numbers that are equal once capped stay so
-cap_on : (m n : ℕ) (bs : List ℕ) → capped m ≡ capped n → capped (value_on m bs) ≡ capped (value_on n bs)
+pub cap_on : (m n : ℕ) (bs : List ℕ) → capped m ≡ capped n → capped (value_on m bs) ≡ capped (value_on n bs)
 cap_on m n [] e = e
 cap_on m n (b ∷ bs) e =
     elim (digit b) as (λ t. capped (cond t (value_on (m * 10 + (b - 48)) bs) m) ≡ capped (cond t (value_on (n * 10 + (b - 48)) bs) n))

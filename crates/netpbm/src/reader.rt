@@ -14,19 +14,27 @@ fn take_samples(heap: Global, maxval: u16, bytes: &[u8]) -> Result<Vec<u16>, All
     ensures { IfOk result (λ v. v.items ≡ values maxval bytes.now) }
 {
     match Depth::of(maxval) {
-        Depth::One => bytes.iter().map(|b| u16::from(*b)).collect(heap),
+        Depth::One => narrow_samples(heap, bytes),
         Depth::Two => wide_samples(heap, bytes),
     }
+}
+
+// The room is asked for at once: `collect` asks for it again and again where it is refused.
+fn narrow_samples(heap: Global, bytes: &[u8]) -> Result<Vec<u16>, AllocError>
+    ensures { IfOk result (λ v. v.items ≡ bytes.now) }
+{
+    let mut out = Vec::with_capacity(heap, bytes.len())?;
+    out.extend(bytes.iter().map(|b| u16::from(*b)))?;
+    Ok(out)
 }
 
 fn wide_samples(heap: Global, bytes: &[u8]) -> Result<Vec<u16>, AllocError>
     ensures { IfOk result (λ v. v.items ≡ pairs bytes.now) }
 {
     let (pairs, _) = bytes.as_chunks();
-    pairs
-        .iter()
-        .map(|pair| u16::from_be_bytes(*pair))
-        .collect(heap)
+    let mut out = Vec::with_capacity(heap, pairs.len())?;
+    out.extend(pairs.iter().map(|pair| u16::from_be_bytes(*pair)))?;
+    Ok(out)
 }
 
 // The picture that the bytes say.

@@ -52,17 +52,18 @@ pub fn frame_at(at: Point, levels: u32, w: Window) -> Result<Frame, Refusal>
 pub fn numbers(heap: Global, samples: &[u16]) -> Result<Vec<i32>, AllocError>
     ensures { IfOk result (λ v. v.items ≡ map pos samples.now) }
 {
-    samples.iter().map(|s| i32::from(*s)).collect(heap)
+    let mut out = Vec::with_capacity(heap, samples.len())?;
+    out.extend(samples.iter().map(|s| i32::from(*s)))?;
+    Ok(out)
 }
 
 // The range of some numbers; of none, 0 to 0.
 pub fn range_of(plane: &[i32]) -> Range
     ensures { result ≡ ends plane.now }
 {
-    Range {
-        least: plane.iter().copied().min().unwrap_or(0),
-        greatest: plane.iter().copied().max().unwrap_or(0),
-    }
+    let least = plane.iter().copied().min().unwrap_or(0);
+    let greatest = plane.iter().copied().max().unwrap_or(0);
+    Range { least, greatest }
 }
 
 // Every stage down, from the highest. The answer is the range of the plane at each stage.

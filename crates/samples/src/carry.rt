@@ -31,7 +31,7 @@ impl<K: Sample> Step for CarryStep<K> {
     fn forecast(&self, a: Option<K>, b: Option<K>) -> K
         ensures { result ≡ (carries K.Sample.kind).forecast a b }
     {
-        a.or(b).unwrap_or(K::nothing())
+        a.unwrap_or_else(|| b.unwrap_or_else(|| K::nothing()))
     }
 
     fn correction(&self, _a: Option<K>, _b: Option<K>) -> K

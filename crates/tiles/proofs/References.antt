@@ -98,15 +98,17 @@ module _ {K : Type 0} (m : Meaning K) (laws : Lawful m) (c home : Corners) (brok
   one_call q g Finish h n r =
       join q _ g _ _ _ (simp plain_cond) (λ ok. (refl, record { picture = g.picture; low = g.low; top = λ x. eqb-true q.stage c.levels (not-false _ (passes _ _ _ _ ok).0) }))
 
-  -- a run comes to the reference tile's moments
-  follows : (q : Reference K) → Good q → (calls : List (Call K)) (ns : List (Moment K)) → HeldCalls m calls → Run m home broken (Shown q) calls ns → ns ≡ history m c home broken q calls
-  follows q g [] [] h r = refl
+  -- a run comes to the reference tile's moments, and leaves the reference tile good
+  follows : (q : Reference K) → Good q → (calls : List (Call K)) (ns : List (Moment K)) → HeldCalls m calls → Run m home broken (Shown q) calls ns →
+      (ns ≡ history m c home broken q calls) × Good (later m c home broken q calls)
+  follows q g [] [] h r = (refl, g)
   follows q g [] (n ∷ ns) h r = absurd r
   follows q g (b ∷ bs) [] h r = absurd r
   follows q g (b ∷ bs) (n ∷ ns) h r =
       let k = one_call q g b h.0 n r.0 in
       let e : n ≡ moment m c home broken q b = comes_to m home broken (Shown q) b n r.0 ∙ k.0 in
-      ap₂ {C = List (Moment K)} (λ w ws. w ∷ ws) e (follows (Next q b) k.1 bs ns h.1 (subst (λ (w : Moment K). Run m home broken w.seen bs ns) e r.1))
+      let rest = follows (Next q b) k.1 bs ns h.1 (subst (λ (w : Moment K). Run m home broken w.seen bs ns) e r.1) in
+      (ap₂ {C = List (Moment K)} (λ w ws. w ∷ ws) e rest.0, rest.1)
 
   put_into : (q : Reference K) (call : Call K) → with_put c q.picture call ≡ (moved m c home broken q call).picture
   put_into q (Put p v) = refl
@@ -140,7 +142,7 @@ module _ {K : Type 0} (m : Meaning K) (laws : Lawful m) (c home : Corners) (brok
   runs_are_the_references w xs p pp with-p calls ns held run =
       let q = reference c w p in
       let e = opened_shown w xs p with-p in
-      let same = follows q (good_opened w p pp) calls ns held (subst (λ (t : Seen K). Run m home broken t calls ns) e run) in
+      let same = (follows q (good_opened w p pp) calls ns held (subst (λ (t : Seen K). Run m home broken t calls ns) e run)).0 in
       record {
         on_opening = e;
         after_each = same;

@@ -1,12 +1,13 @@
 -- What is shown of a tile's state, of a call and of an event. A sample's text is what its type shows, if that is known. Assumes nothing.
-use Rattle.std.specs.Prelude.{ℕ, List, ◌++◌, Some, None, Ok, Err, Option, Result, codes, decimal}
+use Rattle.std.specs.Prelude.{ℕ, List, ◌++◌, Some, Option, codes, decimal}
 use Rattle.std.specs.Fmt.{◌++?◌}
 use Rattle.geometry.specs.declared.point.Point.{Point}
-use Rattle.geometry.specs.declared.refusal.Refusal.{Refusal}
 use Rattle.geometry.specs.Refusals.{number}
 use Rattle.tiles.specs.declared.call.Call.{Call}
 use Rattle.tiles.specs.declared.call.Call.TheVariants.{Put, Read, Begin, Down, Up, Finish}
 use Rattle.tiles.specs.declared.event.Event.{Event}
+use Rattle.tiles.specs.declared.event.Reply.{Reply}
+use Rattle.tiles.specs.declared.event.Reply.TheVariants.{Accepted, Sample, Refused}
 use Rattle.tiles.specs.declared.state.State.{State}
 use Rattle.tiles.specs.declared.state.State.TheVariants.{Picture, Bands}
 
@@ -27,10 +28,10 @@ module _ {K : Type 0} (show : K → Option (List ℕ)) where
   call_text Up = Some (codes "up")
   call_text Finish = Some (codes "finish")
 
-  abbrev pub reply_text : Result (Option K) Refusal → Option (List ℕ)
-  reply_text (Ok None) = Some (codes "accepted")
-  reply_text (Ok (Some v)) = Some (codes "sample ") ++? show v
-  reply_text (Err e) = Some (codes "refused " ++ decimal (number e))
+  abbrev pub reply_text : Reply K → Option (List ℕ)
+  reply_text Accepted = Some (codes "accepted")
+  reply_text (Sample v) = Some (codes "sample ") ++? show v
+  reply_text (Refused e) = Some (codes "refused " ++ decimal (number e))
 
   abbrev pub event_text : Event K → Option (List ℕ)
   event_text e = reply_text e.reply ++? Some (codes ", stage " ++ (decimal e.stage ++ (codes ", " ++ state_text e.state)))

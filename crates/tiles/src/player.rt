@@ -46,30 +46,30 @@ impl AnyTile {
         step: &S,
         source: &B,
         call: Call<S::Sample>,
-    ) -> Option<(AnyTile, Reply<S::Sample>)>
+    ) -> Option<(AnyTile, Result<Option<S::Sample>, Refusal>)>
         ensures { Makes (meant S.Sample.Sample.kind (S.Step.rule step.now)) (B.BreakSource.framed source.now) (B.BreakSource.broken source.now) (with_plane (any_tile self) plane.old) call plane.new result }
     {
         match (self, call) {
             (AnyTile::Picture(p), Call::Put(at, v)) => {
-                let reply = p.put(plane, at, v.known()).map(|()| None);
-                Some((AnyTile::Picture(p), reply))
+                let answer = p.put(plane, at, v.known()).map(|()| None);
+                Some((AnyTile::Picture(p), answer))
             }
             (AnyTile::Picture(p), Call::Read(at)) => {
-                let reply = p.read(plane, at).map(Some);
-                Some((AnyTile::Picture(p), reply))
+                let answer = p.read(plane, at).map(Some);
+                Some((AnyTile::Picture(p), answer))
             }
             (AnyTile::Picture(p), Call::Begin) => Some((AnyTile::Bands(p.begin()), Ok(None))),
             (AnyTile::Bands(b), Call::Read(at)) => {
-                let reply = b.read(plane, at).map(Some);
-                Some((AnyTile::Bands(b), reply))
+                let answer = b.read(plane, at).map(Some);
+                Some((AnyTile::Bands(b), answer))
             }
             (AnyTile::Bands(mut b), Call::Down) => {
-                let reply = b.down(plane, step, source).map(|()| None);
-                Some((AnyTile::Bands(b), reply))
+                let answer = b.down(plane, step, source).map(|()| None);
+                Some((AnyTile::Bands(b), answer))
             }
             (AnyTile::Bands(mut b), Call::Up) => {
-                let reply = b.up(plane, step, source).map(|()| None);
-                Some((AnyTile::Bands(b), reply))
+                let answer = b.up(plane, step, source).map(|()| None);
+                Some((AnyTile::Bands(b), answer))
             }
             (AnyTile::Bands(b), Call::Finish) => match b.finish() {
                 Ok(p) => Some((AnyTile::Picture(p), Ok(None))),
@@ -80,9 +80,10 @@ impl AnyTile {
     }
 
     // What is told of a call that left the tile so: its reply, and the tile's stage and state.
-    fn event<K>(&self, reply: Reply<K>) -> Event<K>
-        ensures { event_told result ≡ told_of (any_tile self.now) (seen (λ o. o) reply) }
+    fn event<K>(&self, answer: Result<Option<K>, Refusal>) -> Event<K>
+        ensures { event_told result ≡ told_of (any_tile self.now) (seen (λ o. o) answer) }
     {
+        let reply = Reply::from(answer);
         match self {
             AnyTile::Picture(p) => Event {
                 reply,
@@ -117,12 +118,12 @@ pub fn play<S: Step, B: BreakSource>(
     let mut tile = AnyTile::open(frame, state, plane)?;
     let mut events = Vec::with_capacity(heap, calls.len())?;
     for call in calls {
-        let Some((next, reply)) = tile.make(plane, step, source, *call) else {
+        let Some((next, answer)) = tile.make(plane, step, source, *call) else {
             return Ok(events);
         };
         tile = next;
         // There is room: it was reserved.
-        events.push(tile.event(reply)).unwrap();
+        events.push(tile.event(answer)).unwrap();
     }
     Ok(events)
 }

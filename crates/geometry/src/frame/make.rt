@@ -120,13 +120,14 @@ impl Frame {
         ensures { result ≡ is_gap (corners_of self.now) g }
     {
         let ((left, right), (top, bottom)) = self.resolution(g.resolution);
-        let p = g.from;
-        if g.resolution == 0 || !(left..right).contains(&p.x) || !(top..bottom).contains(&p.y) {
+        // Taken apart: read as one word, the point would wait for the two words that the caller has just written.
+        let Point { x, y } = g.from;
+        if g.resolution == 0 || !(left..right).contains(&x) || !(top..bottom).contains(&y) {
             return false;
         }
         match g.direction {
-            Direction::Row => p.x + 1 < right,
-            Direction::Column => p.y + 1 < bottom,
+            Direction::Row => x + 1 < right,
+            Direction::Column => y + 1 < bottom,
         }
     }
 

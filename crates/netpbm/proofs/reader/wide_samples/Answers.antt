@@ -1,11 +1,14 @@
-use Rattle.std.proofs.Common.{◌≡◌, ℕ, ◌/◌, List, length, map, vec_items, subst, arith, rules, IfOk}
+use Rattle.std.proofs.Common.{◌/◌, length, rules, tests, arith}
 use Rattle.std.specs.Simd.{first_chunks}
-use Rattle.std.proofs.iter.runs.Made.{chains}
+use Rattle.std.proofs.lemmas.Iterator.{YieldsList-from_map, YieldsList-from_slice}
+use Rattle.std.proofs.lemmas.Iterator.Consumers.{YieldsList-at}
+use Rattle.std.proofs.lemmas.Iterator.Adapters.{items_from_extend}
 use Rattle.netpbm.proofs.Samples.{pair_value, pairs_chunks}
 use Rattle.netpbm.proofs.reader.wide_samples.Goals as goal
 
 pub returns : goal.returns
 returns c =
     let bs = c.args.bytes.now in
-    let made : IfOk c.collect.result (λ v. vec_items v ≡ map pair_value (first_chunks 2 (length bs / 2) bs)) = search (rules, chains) in
-    subst (λ (q : List ℕ). IfOk c.collect.result (λ v. vec_items v ≡ q)) (pairs_chunks (length bs / 2) bs (omega arith) (omega arith)) made
+    let h = items_from_extend c.extend.result c.extend.ensures.ran (YieldsList-from_map _ pair_value (YieldsList-at c.map.ensures.source (YieldsList-from_slice (first_chunks 2 (length bs / 2) bs) cc)) c.map.ensures.closure (λ x r q k. search (rules, tests))) in
+    let same = pairs_chunks (length bs / 2) bs (omega arith) (omega arith) in
+    search rules

@@ -1,0 +1,12 @@
+use Rattle.std.proofs.Common.{rules, tests}
+use Rattle.std.proofs.lemmas.Iterator.{YieldsList-from_map, YieldsList-from_slice}
+use Rattle.std.proofs.lemmas.Iterator.Consumers.{YieldsList-at}
+use Rattle.std.proofs.lemmas.List.{map-id}
+use Rattle.std.proofs.lemmas.Iterator.Adapters.{items_from_extend}
+use Rattle.netpbm.proofs.reader.narrow_samples.Goals as goal
+
+pub returns : goal.returns
+returns c =
+    let h = items_from_extend c.extend.result c.extend.ensures.ran (YieldsList-from_map _ (λ s. s) (YieldsList-at c.map.ensures.source (YieldsList-from_slice c.args.bytes.now cc)) c.map.ensures.closure (λ x r q k. search (rules, tests))) in
+    let same = map-id c.args.bytes.now in
+    search rules

@@ -1,0 +1,10 @@
+use Rattle.std.proofs.Common.{pos, rules, tests}
+use Rattle.std.proofs.lemmas.Iterator.{YieldsList-from_map, YieldsList-from_slice}
+use Rattle.std.proofs.lemmas.Iterator.Consumers.{YieldsList-at}
+use Rattle.std.proofs.lemmas.Iterator.Adapters.{items_from_extend}
+use Rattle.plates.proofs.work.numbers.Goals as goal
+
+pub returns : goal.returns
+returns c =
+    let h = items_from_extend c.extend.result c.extend.ensures.ran (YieldsList-from_map _ pos (YieldsList-at c.map.ensures.source (YieldsList-from_slice c.args.samples.now cc)) c.map.ensures.closure (λ x r q k. search (rules, tests))) in
+    search rules
