@@ -2,6 +2,7 @@
 ghost use Rattle.std.specs.Prelude.{◌≡◌, ◌<◌, length, codes, MatchOption};
 ghost use Rattle.geometry.specs.declared.point.Point.{Point as point};
 ghost use Rattle.commands.specs.Scripts.{WritesPoint, Said, SaidAfter};
+ghost use Rattle.commands.specs.declared.script.Unread.TheVariants.{NoMemory as no_memory};
 
 use geometry::point::Point;
 use std::alloc::{AllocError, AllocFailed, Global};
@@ -16,14 +17,18 @@ pub enum Unread {
 }
 
 impl From<AllocError> for Unread {
+    ghost from_gives = { λ _ r. r ≡ no_memory };
+
     fn from(_e: AllocError) -> Unread {
         Unread::NoMemory
     }
 }
 
 impl<T: Drop> From<AllocFailed<T>> for Unread {
+    ghost from_gives = { λ _ r. r ≡ no_memory };
+
     fn from(_e: AllocFailed<T>) -> Unread {
-        Unread::NoMemory
+        Unread::from(AllocError)
     }
 }
 

@@ -1,6 +1,22 @@
 // What is printed of a script that was played.
+ghost use Rattle.std.specs.Prelude.{Some};
+ghost use Rattle.std.specs.Fmt.{signed_decimal};
+ghost use Rattle.tiles.specs.Texts.{reply_text};
+
 use std::fmt;
-use tiles::{Call, Event};
+use tiles::{Call, Event, Reply};
+
+// What a call answered, by itself.
+#[derive(Clone, Copy)]
+pub struct ReplyText(pub Reply<i32>);
+
+impl fmt::Display for ReplyText {
+    ghost output = { λ t. reply_text (λ v. Some (signed_decimal v)) t.0 };
+
+    fn fmt<W: fmt::Write>(&self, f: &mut fmt::Formatter<W>) -> fmt::Result {
+        write!(f, "{}", self.0)
+    }
+}
 
 // The calls of a script, and the events of those that were made: a line for each of them, and one for the call that was not allowed.
 #[derive(Clone, Copy)]

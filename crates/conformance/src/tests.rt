@@ -1,6 +1,7 @@
 // What both test programs test is the same text in both: tests stand in the crate that they are run in.
-use crate::fault::compare;
+use crate::fault::{Fault, compare};
 use crate::stages::Stages;
+use crate::vector::run_vector;
 use crate::worked::Worked;
 use breaks::labels::LabelMap;
 use geometry::frame::Frame;
@@ -185,6 +186,23 @@ fn stages_are_refused_in_order(rt: HostRuntime) -> Result<(), Fail> {
             Some(number)
         );
         compare(left.as_slice(), plane)?;
+    }
+    Ok(())
+}
+
+#[test]
+fn a_vector_is_five_numbers_and_two_planes(rt: HostRuntime) -> Result<(), Fail> {
+    let heap = rt.alloc();
+    run_vector(heap, "7 9 8 10 0 : 5 -> 5")?;
+    let unreadable = [
+        "7 9 8 10 : 5 -> 5",
+        "7 9 8 10 0 0 : 5 -> 5",
+        "7 9 8 ten 0 : 5 -> 5",
+        "7 9 8 10 0 : five -> 5",
+        "7 9 8 10 0 : 5",
+    ];
+    for line in unreadable {
+        assert!(rt; matches!(run_vector(heap, line), Err(Fault::Unreadable)));
     }
     Ok(())
 }

@@ -1,8 +1,9 @@
 // What both test programs test is the same text in both: tests stand in the crate that they are run in.
-use crate::fault::{compare, compare_told};
+use crate::fault::{Fault, compare, compare_told};
 use crate::stages::Stages;
 use crate::tile::Tile;
 use crate::told::Answer;
+use crate::vector::run_vector;
 use crate::worked::Worked;
 use breaks::labels::LabelMap;
 use geometry::frame::Frame;
@@ -330,5 +331,22 @@ fn no_such_stage(rt: HostRuntime) -> Result<(), Fail> {
         Some(10)
     );
     assert_eq!(rt; plane, RIGHT);
+    Ok(())
+}
+
+#[test]
+fn a_vector_is_five_numbers_and_two_planes(rt: HostRuntime) -> Result<(), Fail> {
+    let heap = rt.alloc();
+    run_vector(heap, "7 9 8 10 0 : 5 -> 5")?;
+    let unreadable = [
+        "7 9 8 10 : 5 -> 5",
+        "7 9 8 10 0 0 : 5 -> 5",
+        "7 9 8 ten 0 : 5 -> 5",
+        "7 9 8 10 0 : five -> 5",
+        "7 9 8 10 0 : 5",
+    ];
+    for line in unreadable {
+        assert!(rt; matches!(run_vector(heap, line), Err(Fault::Unreadable)));
+    }
     Ok(())
 }
